@@ -1,0 +1,4 @@
+pub mod Bases
+pub mod Tests
+pub mod Uniform
+pub mod Greedy

@@ -1,0 +1,2 @@
+pub mod Matroids
+pub mod Greedy
