@@ -1,0 +1,2 @@
+mod interface;
+pub use interface::Measure;

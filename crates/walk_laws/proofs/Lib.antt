@@ -1,0 +1,10 @@
+mod Ahead
+mod Views
+mod Values
+mod Lists
+mod Future
+mod Several
+mod Paths
+pub mod Found
+mod Laws
+pub mod LawOfLife
