@@ -1,0 +1,2 @@
+mod Group
+mod Entries

@@ -1,4 +1,4 @@
--- The law of a tie rule.
+-- What every tie rule keeps to.
 use mathlib.Core.Path.{_≡_}
 use mathlib.Core.Bool.{true, false}
 use Prim.Native.Nat.{ℕ, _<_}

@@ -11,7 +11,7 @@ use Rattle.labels.proofs.Member.{members}
 use Rattle.labels.proofs.Swap.{swap-comm}
 use Rattle.measure.specs.Laws.{GroupLaws}
 use Rattle.walk_laws.specs.Law.{Reordered, chain, none, over, under}
-use Rattle.walk_laws.specs.Settings.{Setting, total-of, value-of, worths}
+use Rattle.walk_laws.specs.Settings.{Setting, total-of, value-of, worths, summed}
 
 -- u is t and the label e
 abbrev With : ℕ → ℕ → ℕ → Type 0
@@ -43,13 +43,13 @@ module _ {V : Type 0} (zero′ : V) (sum : V → V → V) (opposite : V → V) (
 
 module _ {R V : Type 0} (w : Setting R V) where
   worths-same : (t u m : ℕ) → ((x : ℕ) → x ≤ m → has u x ≡ has t x) → worths w u m ≡ worths w t m
-  unfolding worths
+  unfolding summed
   worths-same t u zero same = refl
   worths-same t u (suc m) same = cc (same (suc m) (omega arith), worths-same t u m (λ x h. same x (omega arith)))
 
   module _ (G : GroupLaws (w .zero) (w .sum) (w .opposite)) where
     worths-with : (t e u m : ℕ) → With t e u → 1 ≤ e → e ≤ m → worths w u m ≡ w .sum (worths w t m) (w .worth e)
-    unfolding worths
+    unfolding summed
     worths-with t e u zero h l g = absurd (omega arith)
     worths-with t e u (suc m) (o, i, same) l g = go (cases-eq e (suc m)) (λ k. worths-with t e u m (o, i, same) l k) (has t (suc m)) refl
       where

@@ -25,6 +25,11 @@ pub record Sound {R V : Type 0} (w : Setting R V) : Type 0 where
   pub ties : TieLaws (w .choice) (w .next)
   pub group : GroupLaws (w .zero) (w .sum) (w .opposite)
 
+-- the sum of the worths of the labels of t among 1..m, upwards from the lowest
+unfoldable pub summed : {V : Type 0} → V → (V → V → V) → (ℕ → V) → ℕ → ℕ → V
+summed base sum worth t zero = base
+summed base sum worth t (suc m) = cond (has t (suc m)) (sum (summed base sum worth t m) (worth (suc m))) (summed base sum worth t m)
+
 module _ {R V : Type 0} (w : Setting R V) where
   -- exactly one of e and f is in t, and swapping them gives a base
   abbrev pub fits : ℕ → ℕ → ℕ → Bool
@@ -34,10 +39,9 @@ module _ {R V : Type 0} (w : Setting R V) where
   unfoldable pub candidates : ℕ → ℕ → ℕ
   candidates t e = passing (fits t e) (e - 1)
 
-  -- the sum of the worths of the labels of t among 1..m
-  unfoldable pub worths : ℕ → ℕ → V
-  worths t zero = w .zero
-  worths t (suc m) = cond (has t (suc m)) (w .sum (worths t m) (w .worth (suc m))) (worths t m)
+  -- the same, of the measure of w
+  abbrev pub worths : ℕ → ℕ → V
+  worths t m = summed (w .zero) (w .sum) (w .worth) t m
 
   -- the value of a set
   abbrev pub value-of : ℕ → V

@@ -1,0 +1,9 @@
+//! The walk over all bases of a matroid, one exchange at a time.
+mod calls;
+mod candidates;
+mod state;
+
+pub use state::Walk;
+pub use walk_laws::Exchange;
+pub use walk_laws::Stop;
+pub use walk_laws::View;
