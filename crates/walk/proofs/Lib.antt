@@ -1,1 +1,4 @@
 mod Turns
+mod Made
+mod Sound
+mod Advance

@@ -1,15 +1,15 @@
 -- One turn of each loop of a walk, in the words of the specs.
 use mathlib.Core.Path.{_≡_, refl, sym, ap, ap₂, _∙_, subst}
 use mathlib.Core.Bool.{Bool, true, false, not, _&&_, Bool·beq, cond}
-use Prim.Native.Nat.{ℕ, zero, suc, _+_, _-_, _≤_, _<_}
+use Prim.Native.Nat.{ℕ, suc, _+_, _≤_}
 use native.Mathlib.Omega.{arith}
 use native.Mathlib.Numerals.{add-one}
 use native.Mathlib.Decide.{ℕ-discrete}
 use lib.Bits.{bitOr, bitXor}
-use Rattle.std.proofs.shelf.Tests.{true≢false}
 use Rattle.labels.specs.Sets.{has, insert, swap, single, differs, passing}
 use Rattle.label_words.specs.Words.{word-of}
 use Rattle.label_words.proofs.Held.{word-in}
+use Rattle.walk_laws.specs.Settings.{summed}
 
 -- the code's `inserted` and `swapped`
 pub insert-is : (s e r : ℕ) → 1 ≤ e → e ≤ 64 → r ≡ bitOr s (word-of e) → r ≡ insert s e
@@ -71,3 +71,24 @@ module _ (P : ℕ → Type 0) where
       go : Dec (d ≡ i + 1) → P d
       go (yes e) = subst P (sym e) here
       go (no e) = inv d l (omega arith)
+
+-- ---- the value of a set
+
+pub summed-none : {V : Type 0} (z : V) (sum : V → V → V) (worth : ℕ → V) (t : ℕ) (v : V) → v ≡ z → v ≡ summed z sum worth t 0
+unfolding summed
+summed-none z sum worth t v h = h
+
+module _ {V : Type 0} (z : V) (sum : V → V → V) (worth : ℕ → V) (t i : ℕ) (v : V) (inv : v ≡ summed z sum worth t i) where
+  value-by : (b : Bool) → has t (i + 1) ≡ b → cond b (sum v (worth (i + 1))) v ≡ summed z sum worth t (i + 1)
+  unfolding summed
+  value-by b p =
+      ap (λ (x : Bool). cond x (sum v (worth (i + 1))) v) (sym p)
+      ∙ ap (λ (k : ℕ). cond (has t k) (sum v (worth k)) v) (add-one i)
+      ∙ ap (λ (u : V). cond (has t (suc i)) (sum u (worth (suc i))) u) inv
+      ∙ ap (summed z sum worth t) (sym (add-one i))
+
+  pub value-more : has t (i + 1) ≡ true → sum v (worth (i + 1)) ≡ summed z sum worth t (i + 1)
+  value-more p = value-by true p
+
+  pub value-stays : has t (i + 1) ≡ false → v ≡ summed z sum worth t (i + 1)
+  value-stays p = value-by false p

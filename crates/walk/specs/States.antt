@@ -5,6 +5,7 @@ use Rattle.labels.specs.Sets.{has, differs, swap, passing}
 use Rattle.matroid.specs.declared.interface.Matroid.{Ghosts as MatroidOf}
 use Rattle.tie_rule.specs.declared.rule.TieRule.{Ghosts as TieRuleOf}
 use Rattle.measure.specs.declared.interface.Measure.{Ghosts as MeasureOf}
+use Rattle.matroid_laws.specs.Matroids.{Base}
 use Rattle.walk_laws.specs.Settings.{Setting}
 use Rattle.walk_laws.specs.Steps.{State}
 use Rattle.walk.specs.declared.state.Walk.{Walk}
@@ -24,6 +25,13 @@ setting matroids rules measures matroid measure = record {
 
 abbrev pub state-of : {P R M V : Type 0} → Walk P R M V → State R V
 state-of w = record { present = w .present; active = w .active; count = w .count; value = w .value; total = w .total; tie = w .rule }
+
+abbrev pub setting-of : {P R M V : Type 0} → MatroidOf P → TieRuleOf R → MeasureOf M V → Walk P R M V → Setting R V
+setting-of matroids rules measures w = setting matroids rules measures (w .matroid) (w .measure)
+
+-- the present set is a base: begin establishes it, every call keeps it, and by the law of the life it never fails
+abbrev pub Based : {P R M V : Type 0} → MatroidOf P → Walk P R M V → Type 0
+Based matroids w = Base (matroids .size (w .matroid)) (matroids .independent (w .matroid)) (w .present)
 
 -- exactly one of e and f is in t, and swapping them gives an independent set
 abbrev pub swappable : (ℕ → Bool) → ℕ → ℕ → ℕ → Bool

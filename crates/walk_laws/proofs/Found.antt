@@ -6,6 +6,7 @@ use mathlib.Core.List.{List, [], _∷_, _++_, append-assoc}
 use Prim.Native.Nat.{ℕ, suc, _-_, _≤_, _<_}
 use native.Mathlib.Omega.{arith}
 use Rattle.std.proofs.shelf.Tests.{cases-lt, true≢false}
+use Rattle.std.specs.declared.option.Option.{Option}
 use Rattle.std.specs.declared.option.Option.the-variants.{Some, None}
 use Rattle.labels.specs.Sets.{has, differs, swap, card, passing}
 use Rattle.labels.proofs.Member.{has-none, has-pos}
@@ -21,6 +22,7 @@ use Rattle.walk_laws.specs.Law.{continued}
 use Rattle.labels.proofs.Passing.{passing-same}
 use Rattle.walk_laws.specs.declared.Exchange.{Exchange}
 use Rattle.walk_laws.specs.declared.Stop.the-variants.{Finished}
+use Rattle.walk_laws.proofs.Future.{chosen-tells, move-is, moved, stop-same}
 
 -- the test for a base, where the set is not allowed or is a base
 test-is : (x a b : Bool) → (x ≡ true → a ≡ true → b ≡ true) → (x && (a && b)) ≡ (x && a)
@@ -94,3 +96,11 @@ module _ {R V : Type 0} (w : Setting R V) (W : Sound w) where
       go : ((step w s ≡ (None, s)) × Still w s (λ d. (1 ≤ d) × (d ≤ w .n))) ⊎ ((e : ℕ) × Moved w s e) → step w s ≡ (None, s)
       go (inl (q, still)) = q
       go (inr (e, m)) = absurd (member _ _ (low e (has-pos (s .active) e (m .active)) (m .within) (m .active)) (m .chosen))
+
+  -- an advance leads from a base to a base
+  pub step-base : (s t : State R V) (x : Option Exchange) → step w s ≡ (x, t) → Base (w .n) (w .independent) (s .present) → Base (w .n) (w .independent) (t .present)
+  step-base s t None q T = subst (λ (u : State R V). Base (w .n) (w .independent) (u .present)) (sym (stop-same w W s t q)) T
+  step-base s t (Some x) q T = go (move-is w W s t x q)
+    where
+      go : (e : ℕ) × Moved w s e × (t ≡ moved w s e) × (x ≡ exchange-at w s e (candidates w (s .present) e)) → Base (w .n) (w .independent) (t .present)
+      go (e, m, y, z) = subst (λ (u : State R V). Base (w .n) (w .independent) (u .present)) (sym y) (chosen-tells w s e m .3)

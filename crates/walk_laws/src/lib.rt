@@ -1,4 +1,6 @@
 //! What a walk answers, and the law of its whole life.
+ghost use Rattle.walk_laws.specs.Steps.{entering, leaving};
+ghost use mathlib.Core.Path.{_≡_};
 
 /// Two labels change sides: the higher one came in and the lower one went out, or the other way round.
 #[derive(Clone, Copy, Debug, PartialEq, Eq)]
@@ -23,4 +25,20 @@ pub struct View<V> {
     pub count: u64,
     pub value: V,
     pub total: V,
+}
+
+impl Exchange {
+    /// The label that comes in.
+    pub fn entering(self) -> u8
+        ensures { λ r. ⌜ r ≡ entering self ⌝ }
+    {
+        if self.came { self.high } else { self.low }
+    }
+
+    /// The label that goes out.
+    pub fn leaving(self) -> u8
+        ensures { λ r. ⌜ r ≡ leaving self ⌝ }
+    {
+        if self.came { self.low } else { self.high }
+    }
 }

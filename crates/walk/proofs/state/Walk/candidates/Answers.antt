@@ -1,12 +1,11 @@
-use mathlib.Core.Path.{_≡_, sym, ap, _∙_}
-use mathlib.Core.Bool.{Bool, true, false}
-use Prim.Native.Nat.{ℕ, _+_, _≤_}
+use mathlib.Core.Path.{sym, ap, _∙_}
+use Prim.Native.Nat.{_+_, _≤_}
 use native.Mathlib.Omega.{arith}
 use Rattle.labels.specs.Sets.{has, passing, swap}
 use Rattle.walk.specs.States.{swappable}
 use Rattle.walk.proofs.Turns.{insert-is, swap-is, none-passing, passes, fails, apart-both, apart-first, apart-none}
-use Rattle.walk.proofs.state.Walk.candidates.Needs as need
 use Rattle.walk.proofs.state.Walk.candidates.Needs.{then-contains-inside·then-is-independent, then-contains-inside·else-is-independent, else-contains-inside}
+use Rattle.walk.proofs.state.Walk.candidates.Needs as need
 
 pub loop-i-holds : need.loop-i-holds
 loop-i-holds g c = none-passing _

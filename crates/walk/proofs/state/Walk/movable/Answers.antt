@@ -1,14 +1,14 @@
-use mathlib.Core.Path.{_≡_, sym, ap, _∙_}
+use mathlib.Core.Path.{_≡_, sym, _∙_}
 use mathlib.Core.Bool.{true}
-use Prim.Native.Nat.{ℕ, _+_, _≤_}
+use Prim.Native.Nat.{ℕ}
 use native.Mathlib.Omega.{arith}
 use Rattle.std.proofs.shelf.Tests.{true≢false}
 use Rattle.labels.specs.Sets.{has}
 use Rattle.labels.proofs.Member.{has-pos}
 use Rattle.walk.specs.States.{partners}
 use Rattle.walk.proofs.Turns.{up-none, up-more}
-use Rattle.walk.proofs.state.Walk.movable.Needs as need
 use Rattle.walk.proofs.state.Walk.movable.Needs.{then-contains·else-found-ne0, else-contains}
+use Rattle.walk.proofs.state.Walk.movable.Needs as need
 
 pub candidates-found-requires : need.candidates-found-requires
 candidates-found-requires g c κs = omega (arith, g .P·Matroid·met .few (c .args .self .now .matroid), c .size-i-end .ensures)
