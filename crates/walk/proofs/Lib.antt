@@ -2,3 +2,4 @@ mod Turns
 mod Made
 mod Sound
 mod Advance
+mod Listing

@@ -1,8 +1,13 @@
 //! The walk over all bases of a matroid, one exchange at a time.
 mod calls;
 mod candidates;
+mod entry;
+mod lists;
 mod state;
 
+pub use entry::Entry;
+pub use entry::ExchangeEntry;
+pub use entry::SetEntry;
 pub use state::Walk;
 pub use walk_laws::Exchange;
 pub use walk_laws::Stop;

@@ -3,7 +3,7 @@ mod Views
 mod Values
 mod Lists
 mod Future
-mod Several
+pub mod Several
 mod Paths
 pub mod Found
 mod Laws

@@ -1,6 +1,6 @@
 -- The answers of a list.
 use mathlib.Core.Path.{_≡_, refl, sym, ap, _∙_}
-use mathlib.Core.List.{List, _∷_}
+use mathlib.Core.List.{List, [], _∷_, _++_}
 use Prim.Native.Nat.{ℕ, zero, suc, _-_, _≤_, _<_}
 use native.Mathlib.Nat.{sub-zero, suc-sub-suc}
 use native.Mathlib.Omega.{arith}
@@ -87,3 +87,32 @@ module _ {R V : Type 0} (w : Setting R V) where
       inside = λ j h. inside k j s h;
     }
 
+
+-- ---- one turn of a list
+
+module _ {R V : Type 0} (w : Setting R V) where
+  pub several-more : (j : ℕ) (s u : State R V) (x : Exchange) → several w j s .1 ≡ Full → step w (several w j s .2) ≡ (Some x, u)
+      → several w (suc j) s ≡ (several w j s .0 ++ ((x, u .present) ∷ []), Full, u)
+  unfolding several
+  several-more zero s u x f q = ap (go-on w (several w 0)) q
+  several-more (suc j) s u x f q = go (step w s) f q (several-more j)
+    where
+      go : (p : Option Exchange × State R V) → go-on w (several w j) p .1 ≡ Full → step w (go-on w (several w j) p .2) ≡ (Some x, u)
+          → ((s u : State R V) (x : Exchange) → several w j s .1 ≡ Full → step w (several w j s .2) ≡ (Some x, u)
+              → several w (suc j) s ≡ (several w j s .0 ++ ((x, u .present) ∷ []), Full, u))
+          → go-on w (several w (suc j)) p ≡ (go-on w (several w j) p .0 ++ ((x, u .present) ∷ []), Full, u)
+      go (None, t) f q ih = absurd (full-not-finished Finished f refl)
+      go (Some y, t) f q ih = ap (in-front w (y, t .present)) (ih t u x f q)
+
+  pub several-stop : (j k : ℕ) (s u : State R V) → several w j s .1 ≡ Full → step w (several w j s .2) ≡ (None, u) → j < k
+      → several w k s ≡ (several w j s .0, Finished, u)
+  unfolding several
+  several-stop j zero s u f q l = absurd (omega arith)
+  several-stop zero (suc k) s u f q l = ap (go-on w (several w k)) q
+  several-stop (suc j) (suc k) s u f q l = go (step w s) f q (several-stop j k)
+    where
+      go : (p : Option Exchange × State R V) → go-on w (several w j) p .1 ≡ Full → step w (go-on w (several w j) p .2) ≡ (None, u)
+          → ((s u : State R V) → several w j s .1 ≡ Full → step w (several w j s .2) ≡ (None, u) → j < k → several w k s ≡ (several w j s .0, Finished, u))
+          → go-on w (several w k) p ≡ (go-on w (several w j) p .0, Finished, u)
+      go (None, t) f q ih = absurd (full-not-finished Finished f refl)
+      go (Some y, t) f q ih = ap (in-front w (y, t .present)) (ih t u f q (omega arith))
