@@ -7,7 +7,7 @@ use native.Mathlib.Omega.{arith}
 use lib.IntN.{ℤ}
 use lib.ListN.{length, getD, set, take}
 use mir.Syntax.{w64}
-use Rattle.std.proofs.shelf.Lists.{getD-take, getD-past, getD-default, length-take-le, take-more-set}
+use Rattle.std.proofs.shelf.Lists.{getD-take, getD-past, getD-default, take-more-set}
 use Rattle.std.specs.shelf.Signed.{wrapped}
 use Rattle.measure.specs.Shifts.{entry-at, shift-of, shift-zero}
 use Rattle.measure.proofs.Group.{same-shift}

@@ -22,6 +22,7 @@ impl<P: Matroid, R: TieRule, M: Measure> Walk<P, R, M> {
             → ListedOn (setting-of P·Matroid R·TieRule M·Measure (now (self .entry))) (E·Entry .entry) (state-of (now (self .entry))) (now (roll .entry)) (r .0) (r .1) (state-of (now (self .exit))) (now (roll .exit))) ⌝ }
         ensures based { λ _. ⌜ (Based P·Matroid (now (self .entry)) → Based P·Matroid (now (self .exit))) ⌝ }
         ensures counted { λ r. ⌜ now (self .exit) .count ≡ now (self .entry) .count + r .0 ⌝ }
+        ensures full { λ r. ⌜ (r .1 ≡ Stop.Full → now (roll .exit) .used ≡ size (now (roll .exit))) ⌝ }
         ensures used { λ r. ⌜ now (roll .exit) .used ≡ now (roll .entry) .used + r .0 ⌝ }
         ensures beyond { λ _. ⌜ beyond (now (roll .exit) .used) (now (roll .exit)) ≡ beyond (now (roll .exit) .used) (now (roll .entry)) ⌝ }
         ensures size { λ _. ⌜ size (now (roll .exit)) ≡ size (now (roll .entry)) ⌝ }

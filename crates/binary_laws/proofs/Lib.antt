@@ -1,0 +1,8 @@
+pub mod Small
+mod Sums
+mod Even
+mod Dependent
+pub mod Laws
+pub mod Odd
+pub mod Reduction
+pub mod Table

@@ -1,0 +1,3 @@
+pub mod Points
+pub mod Graphs
+pub mod Edges

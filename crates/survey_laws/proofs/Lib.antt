@@ -1,0 +1,5 @@
+pub mod Pieces
+pub mod Numbers
+pub mod Rows
+pub mod Accepts
+pub mod Refuses
