@@ -1,4 +1,4 @@
--- A lawful row is admitted.
+-- A lawful row is admitted, and every label of a lawful survey fits a word.
 use mathlib.Core.Path.{_≡_, sym, ap, ap₂, _∙_}
 use mathlib.Core.Bool.{Bool, true, _&&_, cond}
 use Prim.Native.Nat.{ℕ, _≤_, _<_}
@@ -9,7 +9,8 @@ use Rattle.std.specs.declared.result.Result.the-variants.{Ok, Err}
 use Rattle.std.proofs.shelf.Ways.{tells}
 use Rattle.entry.specs.declared.EntryRefusal.{EntryRefusal}
 use Rattle.entry.specs.declared.EntryRefusal.the-variants.{OutOfRange, TooManyLabels}
-use Rattle.labels.specs.Sets.{limit}
+use Rattle.labels.specs.Sets.{limit, full, Subset}
+use Rattle.labels.proofs.Member.{members}
 use Rattle.graphic.specs.Points.{inRange}
 use Rattle.graphic.specs.Graphs.{admitted}
 
@@ -27,3 +28,6 @@ never-refused p q n a b e same h (l, g) (k, m) small =
     not-both e (h
     ∙ ap₂ (λ (x y : Bool). cond (x && y) (cond (ltb n limit) (Ok tt) (Err TooManyLabels)) (Err OutOfRange)) (in-range q a l (omega arith)) (in-range q b k (omega arith))
     ∙ ap (λ (x : Bool). cond x (Ok tt) (Err TooManyLabels)) (room n small))
+
+pub full-within : (n m : ℕ) → n ≤ m → Subset (full n) (full m)
+full-within n m h e i = grind (arith, members)

@@ -1,5 +1,8 @@
 //! From the text of a survey to the walk over all spanning trees of its graph.
+mod opening;
 mod rig;
 
+pub use opening::SurveyWalk;
+pub use opening::walk_of;
 pub use rig::graphic_of;
 pub use rig::shifts_of;
