@@ -11,7 +11,7 @@ use Rattle.labels.proofs.Card.{ext, within, within-back, card-zero, card-none, 
 use Rattle.labels.proofs.Find.{find}
 use Rattle.binary_laws.specs.Binary.{xor-sum}
 use Rattle.binary_laws.specs.Elimination.{pivot}
-use Rattle.binary_laws.proofs.Small.{fst-of, snd-of, insert-subset, insert-some, subset-of-remove, out-of-remove, none-of, has-cond, xor-none}
+use Rattle.binary_laws.proofs.Basics.{fst-of, snd-of, insert-subset, insert-some, subset-of-remove, out-of-remove, none-of, has-cond, xor-none}
 use Rattle.binary_laws.proofs.Sums.{xor-sum-none, xor-sum-insert}
 
 -- the words with the place a cleared by the word q

@@ -15,7 +15,7 @@ use Rattle.labels.proofs.Find.{find, no-label-tells, no-label-passes}
 use Rattle.labels.proofs.Swap.{subset-tells, subset-passes}
 use Rattle.matroid_laws.specs.Matroids.{IsMatroid}
 use Rattle.binary_laws.specs.Binary.{xor-sum, binary, LinearlyIndependent}
-use Rattle.binary_laws.proofs.Small.{never, fst-of, snd-of, both-of, fails, below-says, below-back, zero-says, zero-back, subset-le, no-label-fails, subset-none, insert-below, single-subset, remove-subset, out-subset}
+use Rattle.binary_laws.proofs.Basics.{never, fst-of, snd-of, both-of, fails, below-says, below-back, zero-says, zero-back, subset-le, no-label-fails, subset-none, insert-below, single-subset, remove-subset, out-subset}
 use Rattle.binary_laws.proofs.Sums.{xor-sum-empty, xor-sum-single, xor-sum-remove, spread}
 use Rattle.binary_laws.proofs.Dependent.{dependent}
 

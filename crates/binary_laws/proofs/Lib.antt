@@ -1,4 +1,4 @@
-pub mod Small
+pub mod Basics
 mod Sums
 mod Even
 mod Dependent

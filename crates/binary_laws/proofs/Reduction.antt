@@ -11,7 +11,7 @@ use Rattle.labels.proofs.Member.{has-pos, has-xor, members}
 use Rattle.labels.proofs.Card.{ext}
 use Rattle.binary_laws.specs.Binary.{xor-sum}
 use Rattle.binary_laws.specs.Elimination.{Leading, Echelon, cancelled, reduced}
-use Rattle.binary_laws.proofs.Small.{never, none-subset, has-cond, xor-none, xor-same, xor-subset}
+use Rattle.binary_laws.proofs.Basics.{never, none-subset, has-cond, xor-none, xor-same, xor-subset}
 use Rattle.binary_laws.proofs.Sums.{linear, xor-sum-empty}
 
 mixed : (x y q : ℕ) (a b r : Bool) → r ≡ differs a b → cond r (bitXor (bitXor x y) q) (bitXor x y) ≡ bitXor (cond a (bitXor x q) x) (cond b (bitXor y q) y)

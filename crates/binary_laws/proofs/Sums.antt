@@ -11,7 +11,7 @@ use Rattle.labels.specs.Sets.{has, differs, insert, remove, single}
 use Rattle.labels.proofs.Member.{has-none, has-single, has-xor, members}
 use Rattle.labels.proofs.Card.{ext}
 use Rattle.binary_laws.specs.Binary.{xor-sum}
-use Rattle.binary_laws.proofs.Small.{remove-xor, insert-xor, has-cond, xor-none, none-xor, xor-back}
+use Rattle.binary_laws.proofs.Basics.{remove-xor, insert-xor, has-cond, xor-none, none-xor, xor-back}
 
 mixed : (x y w : ℕ) (p q r : Bool) → r ≡ differs p q → bitXor (bitXor x y) (cond r w 0) ≡ bitXor (bitXor x (cond p w 0)) (bitXor y (cond q w 0))
 mixed x y w true true r h = ext _ _ (λ e. let c = has-cond r w 0 e in grind (arith, members))

@@ -12,12 +12,11 @@ use Rattle.labels.specs.Sets.{has, insert, remove, Subset}
 use Rattle.labels.proofs.Member.{has-pos, has-none, members}
 use Rattle.labels.proofs.Card.{ext}
 use Rattle.binary_laws.specs.Binary.{xor-sum, LinearlyIndependent}
-use Rattle.binary_laws.specs.Elimination.{pivot, Leading, Echelon, reduced}
 use mathlib.Core.List.{List}
 use lib.ListN.{length, getD, set, replicate, length-set}
 use lib.Seq.{getD-set-same, getD-set-other}
-use Rattle.binary_laws.specs.Elimination.{places, Grown}
-use Rattle.binary_laws.proofs.Small.{never, subset-none, insert-below, remove-subset, out-subset, insert-some, out-of, insert-both, insert-more, insert-is, xor-none, xor-same, xor-subset}
+use Rattle.binary_laws.specs.Elimination.{places, pivot, Leading, Echelon, reduced, Grown}
+use Rattle.binary_laws.proofs.Basics.{never, subset-none, insert-below, remove-subset, out-subset, insert-some, out-of, insert-both, insert-more, insert-is, xor-none, xor-same, xor-subset}
 use Rattle.binary_laws.proofs.Sums.{linear, xor-sum-empty, xor-sum-remove, xor-sum-insert}
 use Rattle.binary_laws.proofs.Reduction.{reduced-sum, reduced-made, reduced-more, reduced-leads}
 

@@ -1,25 +1,20 @@
 -- The graph that the code holds, by its labels.
 use mathlib.Core.Path.{_≡_, refl, sym, ap, _∙_, subst}
-use mathlib.Core.Bool.{Bool, true, false, _&&_, cond}
+use mathlib.Core.Bool.{Bool, true, false, cond}
 use mathlib.Core.List.{List, [], _∷_, _++_, map, map-append}
 use Prim.Native.Nat.{ℕ, zero, suc, _+_, _-_, _≤_, _<_}
 use native.Mathlib.Numerals.{add-one}
 use native.Mathlib.Omega.{arith}
 use lib.Bits.{bitXor}
-use lib.Dec.{ltb}
 use lib.ListN.{length, getD, set, take, length-map, List·getD-eq-default}
 use lib.Seq.{length-take-le, take-suc-set, getD-take}
 use Rattle.std.proofs.shelf.Lists.{getD-map}
 use Rattle.std.proofs.shelf.Ways.{tells}
-use Rattle.std.specs.declared.option.Option.{Option}
 use Rattle.std.specs.declared.option.Option.the-variants.{Some, None}
-use Rattle.std.specs.declared.result.Result.{Result}
-use Rattle.std.specs.declared.result.Result.the-variants.{Ok, Err}
-use Rattle.entry.specs.declared.EntryRefusal.{EntryRefusal}
-use Rattle.entry.specs.declared.EntryRefusal.the-variants.{OutOfRange, TooManyLabels}
+use Rattle.std.specs.declared.result.Result.the-variants.{Ok}
 use Rattle.labels.specs.Sets.{single, limit}
 use Rattle.binary_laws.specs.Graphic.{incidence, Joined}
-use Rattle.binary_laws.proofs.Small.{xor-same}
+use Rattle.binary_laws.proofs.Basics.{xor-same}
 use Rattle.graphic.specs.declared.edge.Edge.{Edge}
 use Rattle.graphic.specs.declared.graph.Graphic.{Graphic}
 use Rattle.graphic.specs.Points.{inRange}
@@ -90,6 +85,10 @@ module _ (g : Graphic) where
   column-none label f = sym (ap (λ (p : ℕ × ℕ). bitXor (single (p .0)) (single (p .1))) (ends-none label f) ∙ xor-same (single 0))
 
 -- what an entry makes
+
+pub room : (p n a b : ℕ) → Ok tt ≡ admitted p n a b → n < limit
+room p n a b h = grind (arith, tells)
+
 pub one-more : (es : List Edge) (n : ℕ) (e : Edge) (a b : ℕ) → n < length es → e .a ≡ a → e .b ≡ b
     → map ends-of (take (n + 1) (set es n e)) ≡ map ends-of (take n es) ++ ((a, b) ∷ [])
 one-more es n e a b h u w =

@@ -6,6 +6,7 @@ use lib.ListN.{take}
 use Rattle.graphic.specs.declared.edge.Edge.{Edge}
 use Rattle.graphic.specs.declared.graph.Graphic.{Graphic}
 
+-- the two points that an edge joins
 abbrev pub ends-of : Edge → ℕ × ℕ
 ends-of e = (e .a, e .b)
 

@@ -19,9 +19,11 @@ abbrev pub ends : List (ℕ × ℕ) → ℕ → ℕ × ℕ
 ends g zero = (0, 0)
 ends g (suc k) = getD g k (0, 0)
 
+-- the one end
 abbrev pub first-end : List (ℕ × ℕ) → ℕ → ℕ
 first-end g e = ends g e .0
 
+-- and the other
 abbrev pub second-end : List (ℕ × ℕ) → ℕ → ℕ
 second-end g e = ends g e .1
 

@@ -35,7 +35,7 @@ fn admit(points: u8, size: u8, a: u8, b: u8) -> Result<(), EntryRefusal>
 }
 
 impl Graphic {
-    /// A graph with so many points, and no edge. There is at least one point, and at most `MOST_POINTS`.
+    /// A graph with so many points, and no edge. Refused as out of range where there is no point, or more than `MOST_POINTS`.
     pub fn new(points: u8) -> Result<Graphic, EntryRefusal>
         ensures answer { λ r. ⌜ isOk r ≡ inRange most-points points ⌝ }
         ensures made { λ r. ⌜ Cases r (λ g. (g .points ≡ points) × (graph g ≡ [])) (λ e. e ≡ OutOfRange) ⌝ }
@@ -51,6 +51,7 @@ impl Graphic {
     }
 
     /// One edge more, at the next label, between two of the points, which may be the same one.
+    /// Refused as out of range where one is not a point, and else as a label too many. A refusal changes nothing.
     pub fn add(&mut self, a: u8, b: u8) -> Result<(), EntryRefusal>
         ensures answer { λ r. ⌜ r ≡ admitted (now (self .entry) .points) (length (graph (now (self .entry)))) a b ⌝ }
         ensures added { λ r. ⌜ (isOk r ≡ true → Extended (now (self .entry)) a b (now (self .exit))) ⌝ }

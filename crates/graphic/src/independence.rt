@@ -10,6 +10,7 @@ ghost use mathlib.Core.Bool.{true};
 ghost use mathlib.Core.Logic.{_↔_};
 ghost use mathlib.Core.Path.{_≡_};
 
+/// The incidence matrix: the column of an edge has the places of its two points.
 pub impl BinaryMatrix for Graphic as GraphicMatrix {
     ghost width = { λ g. length (graph g) };
 
@@ -27,6 +28,7 @@ pub impl BinaryMatrix for Graphic as GraphicMatrix {
     }
 }
 
+/// The matroid of the forests of a graph.
 pub impl Matroid for Graphic as GraphicMatroid {
     ghost size = { λ g. length (graph g) };
 

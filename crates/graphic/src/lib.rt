@@ -42,7 +42,7 @@ mod tests {
     #[test]
     fn points_out_of_range() -> Result<(), Fail> {
         check_eq(number(Graphic::new(0)), 6)?;
-        check_eq(number(Graphic::new(33)), 6)?;
+        check_eq(number(Graphic::new(MOST_POINTS + 1)), 6)?;
         let mut g = Graphic::new(3)?;
         check_eq(number(g.add(0, 1)), 6)?;
         check_eq(number(g.add(1, 4)), 6)?;
@@ -53,12 +53,12 @@ mod tests {
 
     #[test]
     fn too_many_labels() -> Result<(), Fail> {
-        let mut g = Graphic::new(32)?;
+        let mut g = Graphic::new(MOST_POINTS)?;
         for _ in 0..labels::LIMIT {
-            g.add(1, 32)?;
+            g.add(1, MOST_POINTS)?;
         }
         check_eq(number(g.add(1, 2)), 7)?;
-        check_eq(number(g.add(1, 33)), 6)?;
-        check_eq(g.size(), 48)
+        check_eq(number(g.add(1, MOST_POINTS + 1)), 6)?;
+        check_eq(g.size() as usize, labels::LIMIT)
     }
 }

@@ -1,12 +1,10 @@
 -- What the check answers, by the way that its tests go.
 use mathlib.Core.Path.{_≡_, refl, sym, ap, _∙_}
-use mathlib.Core.Bool.{Bool, true, false, cond}
+use mathlib.Core.Bool.{true, false}
 use mathlib.Core.List.{List, [], _∷_, _++_}
 use Prim.Native.Nat.{ℕ, _+_, _-_, _<_, _≤_}
 use native.Mathlib.Omega.{arith}
-use lib.Dec.{leb, eqb}
 use lib.ListN.{length, take, drop, length-drop}
-use Rattle.std.specs.declared.option.Option.{Option}
 use Rattle.std.specs.declared.option.Option.the-variants.{None, Some}
 use Rattle.std.specs.declared.result.Result.{Result}
 use Rattle.std.specs.declared.result.Result.the-variants.{Ok, Err}
@@ -14,8 +12,8 @@ use Rattle.std.proofs.shelf.Lists.{drop-all, drop-drop, take-rest}
 use Rattle.std.proofs.shelf.Tests.{eq-eqb, ne-eqb, le-leb, lt-leb}
 use Rattle.labels.specs.Sets.{limit}
 use Rattle.survey_laws.specs.Sheets.{SurveyRow, line-feed}
-use Rattle.survey_laws.specs.Check.{Wrong, too-many-rows, wrong-form, out-of-range, same-point, repeated-pair, accepted, number-in, row-in, until, before, after, lines, in-range, met, judged, next-row, follow, read-rows, first-line, headed, read-lines, check}
-use Rattle.survey_laws.proofs.Pieces.{lines-step}
+use Rattle.survey_laws.specs.Check.{Wrong, too-many-rows, wrong-form, out-of-range, same-point, repeated-pair, accepted, refused, number-in, row-in, until, before, after, lines, in-range, met, judged, next-row, follow, read-rows, first-line, headed, read-lines, check}
+use Rattle.survey_laws.proofs.Pieces.{lines-cut}
 
 module _ (p : ℕ) (done : List SurveyRow) where
   -- ---- a row that has the form; q is the row as the code keeps it
@@ -50,14 +48,14 @@ module _ (p : ℕ) (done : List SurveyRow) where
 
 -- ---- a text
 
-lines-cut : (s : List ℕ) → 0 < length s → lines s ≡ before line-feed s ∷ lines (after line-feed s)
-lines-cut [] h = absurd (omega arith)
-lines-cut (c ∷ s) h = lines-step c s
+-- from the same rows on
+pub same-rows : (p q : ℕ) (xs ys : List SurveyRow) (ls : List (List ℕ)) → p ≡ q → xs ≡ ys → read-rows p xs ls ≡ read-rows q ys ls
+same-rows p q xs ys ls e f = cc
 
 check-cut : (text : List ℕ) → check text ≡ headed (first-line (before line-feed text)) (lines (after line-feed text))
 unfolding check number-in
 check-cut [] = refl
-check-cut (c ∷ s) = ap read-lines (lines-step c s)
+check-cut (c ∷ s) = ap read-lines (lines-cut (c ∷ s) (omega arith))
 
 front-from : (n : ℕ) (s : List ℕ) → n ≡ until line-feed s → take (n - 0) s ≡ before line-feed s
 front-from n s e = ap (λ k. take k s) (omega arith)
@@ -73,24 +71,27 @@ check-step text n x e h =
 abbrev part : List ℕ → ℕ → List ℕ
 part text at = take (length text - at) (drop at text)
 
--- the line at place `at`, of which n bytes stand before its line feed
-pub rows-step : (text : List ℕ) (at n p : ℕ) (done : List SurveyRow) (x : Result SurveyRow Wrong) → at < length text → n ≡ until line-feed (part text at)
-    → next-row p done (take (n - 0) (part text at)) ≡ x
-    → read-rows p done (lines (drop at text)) ≡ follow x (length done + 2) (λ r. read-rows p (done ++ r ∷ []) (lines (drop (at + (n + 1)) text)))
-rows-step text at n p done x h e g =
-    let l : 0 < length (drop at text) = simp length-drop (omega arith) in
-    let k : n ≡ until line-feed (drop at text) = e ∙ ap (until line-feed) (take-rest text at) in
-    let f : next-row p done (before line-feed (drop at text)) ≡ x =
-        ap (next-row p done) (ap (before line-feed) (sym (take-rest text at)) ∙ sym (front-from n (part text at) e)) ∙ g in
-    ap (read-rows p done) (lines-cut (drop at text) l)
-    ∙ ap (λ y. follow y (length done + 2) (λ r. read-rows p (done ++ r ∷ []) (lines (after line-feed (drop at text))))) f
-    ∙ ap (λ t. follow x (length done + 2) (λ r. read-rows p (done ++ r ∷ []) (lines t))) (drop-drop (until line-feed (drop at text) + 1) at text)
-    ∙ ap (λ m. follow x (length done + 2) (λ r. read-rows p (done ++ r ∷ []) (lines (drop (at + (m + 1)) text)))) (sym k)
+-- the line at place `at`, of which n bytes stand before its line feed, after the rows `done`
+module _ (text : List ℕ) (at n p : ℕ) (done : List SurveyRow) (h : at < length text) (e : n ≡ until line-feed (part text at)) where
+  rows-step : (x : Result SurveyRow Wrong) → x ≡ next-row p done (take (n - 0) (part text at))
+      → read-rows p done (lines (drop at text)) ≡ follow x (length done + 2) (λ r. read-rows p (done ++ r ∷ []) (lines (drop (at + (n + 1)) text)))
+  rows-step x g =
+      let l : 0 < length (drop at text) = simp length-drop (omega arith) in
+      let k : n ≡ until line-feed (drop at text) = e ∙ ap (until line-feed) (take-rest text at) in
+      let f : next-row p done (before line-feed (drop at text)) ≡ x =
+      ap (next-row p done) (ap (before line-feed) (sym (take-rest text at)) ∙ sym (front-from n (part text at) e)) ∙ sym g in
+      ap (read-rows p done) (lines-cut (drop at text) l)
+      ∙ ap (λ y. follow y (length done + 2) (λ r. read-rows p (done ++ r ∷ []) (lines (after line-feed (drop at text))))) f
+      ∙ ap (λ t. follow x (length done + 2) (λ r. read-rows p (done ++ r ∷ []) (lines t))) (drop-drop (until line-feed (drop at text) + 1) at text)
+      ∙ ap (λ m. follow x (length done + 2) (λ r. read-rows p (done ++ r ∷ []) (lines (drop (at + (m + 1)) text)))) (sym k)
+
+  pub rows-wrong : (w : Wrong) (m : ℕ) → Err w ≡ next-row p done (take (n - 0) (part text at)) → m ≡ length done → refused w (m + 2) ≡ read-rows p done (lines (drop at text))
+  rows-wrong w m g k = ap (λ i. refused w (i + 2)) k ∙ sym (rows-step (Err w) g)
+
+  pub rows-more : (r : SurveyRow) (q : ℕ) (more : List SurveyRow) → Ok r ≡ next-row p done (take (n - 0) (part text at)) → q ≡ p → more ≡ done ++ r ∷ []
+      → read-rows q more (lines (drop (at + (n + 1)) text)) ≡ read-rows p done (lines (drop at text))
+  rows-more r q more g k l = same-rows q p more (done ++ r ∷ []) (lines (drop (at + (n + 1)) text)) k l ∙ sym (rows-step (Ok r) g)
 
 -- after the last line
 pub rows-end : (text : List ℕ) (at p : ℕ) (done : List SurveyRow) → length text ≤ at → read-rows p done (lines (drop at text)) ≡ accepted (record { points = p; rows = done })
 rows-end text at p done h = ap (λ t. read-rows p done (lines t)) (drop-all at text h)
-
--- from the same rows on
-pub same-rows : (p q : ℕ) (xs ys : List SurveyRow) (ls : List (List ℕ)) → p ≡ q → xs ≡ ys → read-rows p xs ls ≡ read-rows q ys ls
-same-rows p q xs ys ls e f = cc

@@ -13,9 +13,11 @@ use Rattle.survey.specs.declared.values.Refusal.{Refusal}
 use Rattle.survey.specs.declared.fields.Fields.{Fields}
 use Rattle.survey.specs.declared.table.Survey.{Survey}
 
+-- a row of the code
 abbrev pub row-of : Row → SurveyRow
 row-of r = record { a = r .a; b = r .b; across = r .across; along = r .along }
 
+-- a row before its range is known
 abbrev pub fields-of : Fields → SurveyRow
 fields-of f = record { a = f .a; b = f .b; across = f .across; along = f .along }
 
@@ -23,9 +25,11 @@ fields-of f = record { a = f .a; b = f .b; across = f .across; along = f .along 
 abbrev pub rows-of : Survey → List SurveyRow
 rows-of s = map row-of (take (s .count) (s .rows))
 
+-- a survey of the code
 abbrev pub sheet-of : Survey → Sheet
 sheet-of s = record { points = s .points; rows = rows-of s }
 
+-- a fault of the code
 abbrev pub wrong-of : Fault → Wrong
 wrong-of TooManyRows = too-many-rows
 wrong-of WrongForm = wrong-form
@@ -33,15 +37,17 @@ wrong-of OutOfRange = out-of-range
 wrong-of SamePoint = same-point
 wrong-of RepeatedPair = repeated-pair
 
--- what the check has for a row, and for its first line
+-- what came of a row
 abbrev pub row-outcome : Result Row Fault → Result SurveyRow Wrong
 row-outcome (Ok r) = Ok (row-of r)
 row-outcome (Err e) = Err (wrong-of e)
 
+-- what came of the first line
 abbrev pub points-outcome : Result ℕ Fault → Result ℕ Wrong
 points-outcome (Ok p) = Ok p
 points-outcome (Err e) = Err (wrong-of e)
 
+-- what came of a text
 abbrev pub outcome : Result Survey Refusal → Outcome
 outcome (Ok s) = accepted (sheet-of s)
 outcome (Err e) = refused (wrong-of (e .fault)) (e .row)

@@ -1,6 +1,6 @@
 //! The pieces of a text: lines, and the four numbers of a line.
 ghost use mathlib.Core.Path.{_≡_};
-ghost use Prim.Native.Nat.{ℕ, _≤_};
+ghost use Prim.Native.Nat.{_≤_};
 ghost use lib.ListN.{length};
 ghost use Rattle.std.specs.Options.{mapped};
 ghost use Rattle.survey_laws.specs.Sheets.{comma};
@@ -46,10 +46,20 @@ fn cut<'a>(s: &'a [u8]) -> (&'a [u8], &'a [u8])
 }
 
 // The fields of four numbers, if all are there.
-fn assembled(a: Option<u32>, b: Option<u32>, across: Option<i64>, along: Option<i64>) -> Option<Fields>
+fn assembled(
+    a: Option<u32>,
+    b: Option<u32>,
+    across: Option<i64>,
+    along: Option<i64>,
+) -> Option<Fields>
     ensures { λ r. ⌜ mapped fields-of r ≡ row-from a b across along ⌝ }
 {
-    Some(Fields { a: a?, b: b?, across: across?, along: along? })
+    Some(Fields {
+        a: a?,
+        b: b?,
+        across: across?,
+        along: along?,
+    })
 }
 
 /// The four numbers of a line.

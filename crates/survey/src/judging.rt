@@ -1,7 +1,7 @@
 //! The checks of one line, in their order.
 ghost use mathlib.Core.Bool.{true};
 ghost use mathlib.Core.Path.{_≡_};
-ghost use Prim.Native.Nat.{ℕ, _^_, _<_};
+ghost use Prim.Native.Nat.{_^_, _<_};
 ghost use lib.ListN.{length};
 ghost use Rattle.std.specs.Results.{isOk};
 ghost use Rattle.labels.specs.Sets.{limit};
@@ -13,9 +13,9 @@ use crate::numerals::number;
 use crate::table::Survey;
 use crate::values::Fault;
 use crate::values::Row;
-use labels::LIMIT;
 
 const MOST_POINTS: u8 = 32;
+
 const FURTHEST: i64 = 1000000;
 
 fn is_point(x: u32, most: u8) -> bool
@@ -40,7 +40,12 @@ fn narrowed(f: Fields) -> Row
     requires { ⌜ f .a < 2 ^ 8 ⌝ ∗ ⌜ f .b < 2 ^ 8 ⌝ }
     ensures { λ r. ⌜ row-of r ≡ fields-of f ⌝ }
 {
-    Row { a: f.a as u8, b: f.b as u8, across: f.across, along: f.along }
+    Row {
+        a: f.a as u8,
+        b: f.b as u8,
+        across: f.across,
+        along: f.along,
+    }
 }
 
 fn judge(survey: &Survey, f: Fields) -> Result<Row, Fault>
@@ -64,7 +69,7 @@ pub fn next(survey: &Survey, line: &[u8]) -> Result<Row, Fault>
     ensures is { λ r. ⌜ row-outcome r ≡ next-row (now (survey .entry) .points) (rows-of (now (survey .entry))) (now (line .entry)) ⌝ }
     ensures room { λ r. ⌜ (isOk r ≡ true → length (rows-of (now (survey .entry))) < limit) ⌝ }
 {
-    if survey.len() >= LIMIT {
+    if survey.is_full() {
         return Err(Fault::TooManyRows);
     }
     let Some(f) = split_row(line) else {
@@ -80,5 +85,9 @@ pub fn head(line: &[u8]) -> Result<u8, Fault>
     let Some(p) = number(line) else {
         return Err(Fault::WrongForm);
     };
-    if is_point(p, MOST_POINTS) { Ok(p as u8) } else { Err(Fault::OutOfRange) }
+    if is_point(p, MOST_POINTS) {
+        Ok(p as u8)
+    } else {
+        Err(Fault::OutOfRange)
+    }
 }

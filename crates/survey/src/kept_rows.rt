@@ -1,7 +1,8 @@
 //! The rows that a survey keeps.
 ghost use mathlib.Core.List.{[], _∷_, _++_};
 ghost use mathlib.Core.Path.{_≡_};
-ghost use Prim.Native.Nat.{ℕ, _≤_, _<_};
+ghost use Prim.Native.Nat.{_≤_, _<_};
+ghost use lib.Dec.{leb};
 ghost use lib.ListN.{length};
 ghost use Rattle.std.specs.Options.{mapped};
 ghost use Rattle.std.specs.shelf.Maps.{nth};
@@ -12,7 +13,12 @@ use crate::table::Survey;
 use crate::values::Row;
 use labels::LIMIT;
 
-const NO_ROW: Row = Row { a: 0, b: 0, across: 0, along: 0 };
+const NO_ROW: Row = Row {
+    a: 0,
+    b: 0,
+    across: 0,
+    along: 0,
+};
 
 // Whether two rows have the same pair of points, either way round.
 fn is_same_pair(one: Row, other: Row) -> bool
@@ -26,7 +32,11 @@ impl Survey {
         ensures points { λ r. ⌜ r .points ≡ points ⌝ }
         ensures rows { λ r. ⌜ rows-of r ≡ [] ⌝ }
     {
-        Survey { points, count: 0, rows: [NO_ROW; LIMIT] }
+        Survey {
+            points,
+            count: 0,
+            rows: [NO_ROW; LIMIT],
+        }
     }
 
     /// How many points there are.
@@ -41,14 +51,25 @@ impl Survey {
         ensures is { λ r. ⌜ r ≡ length (sheet-of (now (self .entry)) .rows) ⌝ }
         ensures few { λ r. ⌜ r ≤ limit ⌝ }
     {
-        self.count
+        self.count as usize
+    }
+
+    // Whether there is no room for a row more.
+    pub(crate) fn is_full(&self) -> bool
+        ensures { λ r. ⌜ r ≡ leb limit (length (rows-of (now (self .entry)))) ⌝ }
+    {
+        self.len() >= LIMIT
     }
 
     /// The row at place `i`, from 0; its label is `i + 1`.
     pub fn row(&self, i: usize) -> Option<Row>
         ensures { λ r. ⌜ mapped row-of r ≡ nth (sheet-of (now (self .entry)) .rows) i ⌝ }
     {
-        if i < self.count { Some(self.rows[i]) } else { None }
+        if i < self.len() {
+            Some(self.rows[i])
+        } else {
+            None
+        }
     }
 
     pub(crate) fn push(&mut self, row: Row)
@@ -56,7 +77,8 @@ impl Survey {
         ensures points { λ _. ⌜ now (self .exit) .points ≡ now (self .entry) .points ⌝ }
         ensures rows { λ _. ⌜ rows-of (now (self .exit)) ≡ rows-of (now (self .entry)) ++ row-of row ∷ [] ⌝ }
     {
-        self.rows[self.count] = row;
+        let n = self.len();
+        self.rows[n] = row;
         self.count += 1;
     }
 
@@ -64,7 +86,7 @@ impl Survey {
     pub(crate) fn has_pair(&self, row: Row) -> bool
         ensures { λ r. ⌜ r ≡ met (rows-of (now (self .entry))) (row-of row) ⌝ }
     {
-        for i in 0..self.count {
+        for i in 0..self.len() {
             if is_same_pair(self.rows[i], row) {
                 return true;
             }

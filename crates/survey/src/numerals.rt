@@ -1,11 +1,10 @@
 //! Numbers as a row writes them.
 ghost use mathlib.Core.Bool.{true};
 ghost use mathlib.Core.Path.{_≡_};
-ghost use Prim.Native.Nat.{ℕ, _^_, _≤_, _<_};
+ghost use Prim.Native.Nat.{_≤_, _<_};
 ghost use lib.Dec.{eqb};
 ghost use lib.ListN.{length, getD};
-ghost use Rattle.std.specs.Options.{Cases as BySome};
-ghost use Rattle.survey_laws.specs.Check.{isDigit, most-digits, sized, read-on, number-in, plain, negative as minus, shift-in};
+ghost use Rattle.survey_laws.specs.Check.{isDigit, minus-sign, most-digits, sized, read-on, number-in, plain, negative as minus, shift-in};
 
 const MOST_DIGITS: usize = 7;
 
@@ -53,7 +52,7 @@ pub fn number(s: &[u8]) -> Option<u32>
 }
 
 fn has_minus(s: &[u8]) -> bool
-    ensures is { λ r. ⌜ r ≡ eqb (getD (now (s .entry)) 0 0) 45 ⌝ }
+    ensures is { λ r. ⌜ r ≡ eqb (getD (now (s .entry)) 0 0) minus-sign ⌝ }
     ensures some { λ r. ⌜ (r ≡ true → 0 < length (now (s .entry))) ⌝ }
 {
     if s.len() == 0 {

@@ -3,7 +3,7 @@ ghost use mathlib.Core.Path.{_≡_};
 ghost use Prim.Native.Nat.{_+_, _≤_};
 ghost use lib.ListN.{length, drop};
 ghost use Rattle.survey_laws.specs.Check.{lines, read-rows as rows-read, check};
-ghost use Rattle.survey_laws.specs.Laws.{Accepts-exactly, Refuses-first, Short};
+ghost use Rattle.survey_laws.specs.Laws.{Accepts-exactly, Front-decides, Refuses-first, Short};
 ghost use Rattle.survey.specs.View.{rows-of, outcome};
 use crate::fields::until;
 use crate::judging::head;
@@ -11,9 +11,9 @@ use crate::judging::next;
 use crate::table::Survey;
 use crate::values::Refusal;
 
-const LINE_FEED: u8 = 10;
+const LINE_FEED: u8 = b'\n';
 
-// The rows of the text from place `at` on, after the rows of the survey.
+// The rows of the text from place `start` on, after the rows of the survey.
 fn read_rows(text: &[u8], start: usize, kept: Survey) -> Result<Survey, Refusal>
     requires { ⌜ start ≤ length (now text) + 1 ⌝ }
     ensures { λ r. ⌜ outcome r ≡ rows-read (kept .points) (rows-of kept) (lines (drop start (now (text .entry)))) ⌝ }
@@ -25,7 +25,10 @@ fn read_rows(text: &[u8], start: usize, kept: Survey) -> Result<Survey, Refusal>
         let size = until(rest, LINE_FEED);
         match next(&survey, &rest[0..size]) {
             Ok(row) => survey.push(row),
-            Err(fault) => return Err(Refusal { fault, row: survey.len() as u32 + 2 }),
+            Err(fault) => return Err(Refusal {
+                fault,
+                row: survey.len() as u32 + 2,
+            }),
         }
         at += size + 1;
     }
@@ -39,6 +42,7 @@ pub fn read(text: &[u8]) -> Result<Survey, Refusal>
     ensures accepts { λ _. ⌜ Accepts-exactly ⌝ }
     ensures refuses { λ _. ⌜ Refuses-first ⌝ }
     ensures short { λ _. ⌜ Short ⌝ }
+    ensures front { λ _. ⌜ Front-decides ⌝ }
 {
     let first = until(text, LINE_FEED);
     match head(&text[0..first]) {

@@ -10,7 +10,7 @@ use labels::LIMIT;
 #[derive(Drop)]
 pub struct Survey {
     pub(crate) points: u8,
-    pub(crate) count: usize,
+    pub(crate) count: u8,
     pub(crate) rows: [Row; LIMIT],
     ghost fits: { count ≤ limit },
     ghost whole: { length rows ≡ limit },

@@ -1,25 +1,24 @@
 -- The law of the check: it accepts exactly the written forms of lawful sheets, each as the sheet that was written.
 use mathlib.Core.Path.{_≡_, refl, sym, ap, _∙_, subst}
-use mathlib.Core.Logic.{_⊎_, inl, inr}
+use mathlib.Core.Logic.{inl, inr}
 use mathlib.Core.Bool.{Bool, true, false, cond}
 use mathlib.Core.List.{List, [], _∷_, _++_, map}
-use Prim.Native.Nat.{ℕ, zero, suc, _+_, _-_, _*_, _^_, _≤_, _<_}
+use Prim.Native.Nat.{ℕ, _+_, _≤_}
 use native.Mathlib.Omega.{arith}
-use lib.Dec.{eqb, ltb, leb}
 use lib.ListN.{length, length-append}
 use Rattle.std.specs.declared.option.Option.{Option}
 use Rattle.std.specs.declared.option.Option.the-variants.{None, Some}
 use Rattle.std.specs.declared.result.Result.{Result}
 use Rattle.std.specs.declared.result.Result.the-variants.{Ok, Err}
-use Rattle.std.specs.Written.{decimal, signed}
+use Rattle.std.specs.Written.{decimal}
 use Rattle.std.specs.shelf.Lists.{All}
 use Rattle.std.proofs.shelf.Ways.{tells}
 use Rattle.std.proofs.shelf.Lists.{append-nil, append-assoc, length-push}
 use Rattle.std.proofs.shelf.Elements.{all-push, all-map, all-weaker}
 use Rattle.std.proofs.shelf.Decimals.{decimal-some}
 use Rattle.labels.specs.Sets.{limit}
-use Rattle.survey_laws.specs.Sheets.{SurveyRow, Sheet, SamePair, Once, LawfulRow, Lawful, most-points, line-feed, row-written, ended, written}
-use Rattle.survey_laws.specs.Check.{Wrong, out-of-range, Outcome, accepted, refused, number-in, isPoint, lines, next-row, follow, read-rows, counted, first-line, headed, read-lines, check}
+use Rattle.survey_laws.specs.Sheets.{SurveyRow, Sheet, SamePair, Once, LawfulRow, Lawful, most-points, line-feed, row-written, ended}
+use Rattle.survey_laws.specs.Check.{Wrong, out-of-range, accepted, refused, number-in, isPoint, lines, next-row, follow, read-rows, counted, first-line, headed, read-lines, check}
 use Rattle.survey_laws.specs.Laws.{Writes, Accepts-exactly}
 use Rattle.survey_laws.proofs.Pieces.{Line, Again, ended-lines, lines-ended, lines-unended}
 use Rattle.survey_laws.proofs.Numbers.{number-in-is, number-in-decimal, free-decimal}
@@ -91,13 +90,14 @@ pub record Whole (p : ℕ) (rs : List SurveyRow) : Type 0 where
 
 whole-fits : (p : ℕ) (done rs : List SurveyRow) → Whole p (done ++ rs) → Fit p done rs
 whole-fits p done [] W = tt
-whole-fits p done (r ∷ rs) W =
-    (record {
-       room = let k = W .few in omega (arith, length-append done (r ∷ rs));
-       lawful = all-middle (LawfulRow p) done r rs (W .each);
-       unmet = once-at done r rs (W .once);
-     },
-     whole-fits p (done ++ r ∷ []) rs (subst (Whole p) (sym (append-assoc done (r ∷ []) rs)) W))
+whole-fits p done (r ∷ rs) W = (
+  record {
+    room = let k = W .few in omega (arith, length-append done (r ∷ rs));
+    lawful = all-middle (LawfulRow p) done r rs (W .each);
+    unmet = once-at done r rs (W .once);
+  },
+  whole-fits p (done ++ r ∷ []) rs (subst (Whole p) (sym (append-assoc done (r ∷ []) rs)) W),
+)
 
 pub fits-whole : (p : ℕ) (done rs : List SurveyRow) → Whole p done → Fit p done rs → Whole p (done ++ rs)
 fits-whole p done [] W F = subst (Whole p) (sym (append-nil done)) W
@@ -105,12 +105,12 @@ fits-whole p done (r ∷ rs) W F =
     let L = F .0 in
     subst (Whole p) (append-assoc done (r ∷ []) rs)
     (fits-whole p (done ++ r ∷ []) rs
-     (record {
-        few = let k = L .room in omega (arith, length-push done r);
-        each = all-push (LawfulRow p) done r (W .each) (L .lawful);
-        once = once-push done r (W .once) (L .unmet);
-      })
-     (F .1))
+    (record {
+      few = let k = L .room in omega (arith, length-push done r);
+      each = all-push (LawfulRow p) done r (W .each) (L .lawful);
+      once = once-push done r (W .once) (L .unmet);
+    })
+    (F .1))
 
 -- ---- the law
 
@@ -142,10 +142,11 @@ accepts text s e = go (lines text) (ended-lines text) e
         let k = first-line-is l p f in
         let R = read-rows-is p [] ls s e in
         let W = fits-whole p [] (R .rows) (record { few = omega arith; each = tt; once = tt }) (R .fit) in
-        let L : Lawful (sheet p (R .rows)) = record { some-points = k .1; few-points = k .2; few-rows = W .few; each-row = W .each; once = W .once } in
-        (subst Lawful (R .whole) L,
-         turned (l ∷ ls)
-         (ap (λ x. x ∷ ls) (k .0) ∙ ap (λ xs. decimal p ∷ xs) (R .written-so) ∙ ap (λ (t : Sheet). decimal (t .points) ∷ map row-written (t .rows)) (R .whole)) A)
+        let L : Lawful (sheet p (R .rows)) = record { some-points = k .1; few-points = k .2; few-rows = W .few; each-row = W .each; once = W .once } in (
+          subst Lawful (R .whole) L,
+          turned (l ∷ ls)
+              (ap (λ x. x ∷ ls) (k .0) ∙ ap (λ xs. decimal p ∷ xs) (R .written-so) ∙ ap (λ (t : Sheet). decimal (t .points) ∷ map row-written (t .rows)) (R .whole)) A,
+        )
 
     first : (l : List ℕ) (ls : List (List ℕ)) → Again (l ∷ ls) text → (x : Result ℕ Wrong) → first-line l ≡ x → headed x ls ≡ accepted s → Lawful s × Writes text s
     first l ls A (Ok p) f e = with-points p l ls f A e
@@ -157,9 +158,10 @@ accepts text s e = go (lines text) (ended-lines text) e
 
 -- the lines of a lawful sheet
 sheet-lines : (s : Sheet) → Lawful s → All Line (decimal (s .points) ∷ map row-written (s .rows))
-sheet-lines s L =
-    ((free-decimal line-feed (s .points) (omega arith) (omega arith), decimal-some (s .points) (omega arith)),
-     all-map Line row-written (s .rows) (all-weaker (LawfulRow (s .points)) (λ r. Line (row-written r)) (λ r l. row-line r (numbered (s .points) r (L .few-points) l)) (s .rows) (L .each-row)))
+sheet-lines s L = (
+  (free-decimal line-feed (s .points) (omega arith) (omega arith), decimal-some (s .points) (omega arith)),
+  all-map Line row-written (s .rows) (all-weaker (LawfulRow (s .points)) (λ r. Line (row-written r)) (λ r l. row-line r (numbered (s .points) r (L .few-points) l)) (s .rows) (L .each-row)),
+)
 
 pub accepts-written : (text : List ℕ) (s : Sheet) → Lawful s → Writes text s → check text ≡ accepted s
 unfolding check
@@ -167,7 +169,7 @@ accepts-written text s L W =
     ap read-lines (as-lines W)
     ∙ ap (λ x. headed x (map row-written (s .rows))) (first-line-written (s .points) (L .some-points) (L .few-points))
     ∙ read-rows-written (s .points) [] (s .rows) (L .few-points)
-      (whole-fits (s .points) [] (s .rows) (record { few = L .few-rows; each = L .each-row; once = L .once }))
+    (whole-fits (s .points) [] (s .rows) (record { few = L .few-rows; each = L .each-row; once = L .once }))
   where
     as-lines : Writes text s → lines text ≡ decimal (s .points) ∷ map row-written (s .rows)
     as-lines (inl e) = ap lines e ∙ lines-ended (decimal (s .points) ∷ map row-written (s .rows)) (sheet-lines s L)

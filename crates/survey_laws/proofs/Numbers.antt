@@ -1,11 +1,11 @@
 -- What the reading of a number takes: exactly the numerals of at most seven digits.
 use mathlib.Core.Path.{_≡_, refl, sym, ap, _∙_, subst}
 use mathlib.Core.Logic.{_⊎_, inl, inr}
-use mathlib.Core.Bool.{Bool, true, false, not, cond}
-use mathlib.Core.List.{List, [], _∷_, _++_}
+use mathlib.Core.Bool.{Bool, true, false, cond}
+use mathlib.Core.List.{List, [], _∷_}
 use Prim.Native.Nat.{ℕ, zero, suc, _+_, _-_, _*_, _^_, _≤_, _<_}
 use native.Mathlib.Omega.{arith}
-use lib.Dec.{eqb, ltb, leb}
+use lib.Dec.{eqb}
 use lib.IntN.{ℤ, pos, negsuc, natAbs}
 use lib.ListN.{length, getD, drop}
 use Rattle.std.specs.declared.option.Option.{Option}
@@ -15,9 +15,9 @@ use Rattle.std.specs.Written.{decimal, signed}
 use Rattle.std.specs.shelf.Lists.{All}
 use Rattle.std.proofs.shelf.Elements.{all-getD, all-weaker}
 use Rattle.std.proofs.shelf.Ways.{tells}
-use Rattle.std.proofs.shelf.Tests.{cases-lt, cases-eq, eq-eqb, ne-eqb, cond-true, cond-false, false≢true}
+use Rattle.std.proofs.shelf.Tests.{cases-eq, ne-eqb, cond-true, cond-false, false≢true}
 use Rattle.std.proofs.shelf.Numerals.{Numerals, numerals-by-fold, value-short}
-use Rattle.std.proofs.shelf.Decimals.{decimal-value, digits-decimal, value-decimal, decimal-digit, decimal-some, length-decimal-le, first-decimal}
+use Rattle.std.proofs.shelf.Decimals.{decimal-value, digits-decimal, value-decimal, decimal-digit, decimal-some, length-decimal-le, length-signed-le, first-decimal}
 use Rattle.survey_laws.proofs.Pieces.{Free}
 use Rattle.survey_laws.specs.Check.{isDigit, sized, read-on, number-in, plain, negative, shift-in}
 
@@ -142,3 +142,8 @@ signed-some (negsuc n) h = omega arith
 
 pub shift-some : (s : List ℕ) (z : ℤ) → shift-in s ≡ Some z → 0 < length s
 shift-some s z e = let r = shift-in-is s z e in omega (arith, ap length (r .0), signed-some z (r .1))
+
+-- how long a shift is written
+pub length-shift : (z : ℤ) → natAbs z < 10 ^ 7 → length (signed z) ≤ 8
+length-shift (pos n) h = let k = length-decimal-le 7 n (omega arith) h (omega arith) in omega arith
+length-shift (negsuc n) h = length-signed-le 7 (negsuc n) (omega arith) (omega arith)

@@ -1,19 +1,19 @@
 -- A list cut at the first byte b, and a text cut into lines.
-use mathlib.Core.Path.{_≡_, refl, sym, ap, _∙_, subst}
+use mathlib.Core.Path.{_≡_, refl, ap, _∙_, subst}
 use mathlib.Core.Logic.{_⊎_, inl, inr}
-use mathlib.Core.Bool.{Bool, true, false, not, cond}
+use mathlib.Core.Bool.{Bool, true, false}
 use mathlib.Core.List.{List, [], _∷_, _++_}
-use Prim.Native.Nat.{ℕ, zero, suc, _+_, _-_, _≤_, _<_}
+use Prim.Native.Nat.{ℕ, _+_, _<_}
 use native.Mathlib.Omega.{arith}
 use native.Mathlib.Numerals.{add-one, one-add}
 use lib.Dec.{eqb}
-use lib.ListN.{length, take, drop}
+use lib.ListN.{length}
 use Rattle.std.specs.shelf.Lists.{All}
-use Rattle.std.proofs.shelf.Tests.{cond-true, cond-false, true≢false}
+use Rattle.std.proofs.shelf.Tests.{cond-true, cond-false}
 use Rattle.std.proofs.shelf.Ways.{tells}
 use Rattle.std.proofs.shelf.Lists.{append-nil, append-assoc, append-cancel-right, length-push}
 use Rattle.survey_laws.specs.Sheets.{line-feed, ended}
-use Rattle.survey_laws.specs.Check.{until, before, after, onto, lines}
+use Rattle.survey_laws.specs.Check.{before, after, onto, lines}
 
 -- the byte b does not stand in s
 abbrev pub Free : ℕ → List ℕ → Type 0
@@ -21,16 +21,16 @@ Free b s = All (λ c. eqb c b ≡ false) s
 
 -- ---- one cut
 
-before-none : (b c : ℕ) (s : List ℕ) → eqb c b ≡ true → before b (c ∷ s) ≡ []
+pub before-none : (b c : ℕ) (s : List ℕ) → eqb c b ≡ true → before b (c ∷ s) ≡ []
 before-none b c s e = rw e
 
-after-none : (b c : ℕ) (s : List ℕ) → eqb c b ≡ true → after b (c ∷ s) ≡ s
+pub after-none : (b c : ℕ) (s : List ℕ) → eqb c b ≡ true → after b (c ∷ s) ≡ s
 after-none b c s e = rw e
 
-before-more : (b c : ℕ) (s : List ℕ) → eqb c b ≡ false → before b (c ∷ s) ≡ c ∷ before b s
+pub before-more : (b c : ℕ) (s : List ℕ) → eqb c b ≡ false → before b (c ∷ s) ≡ c ∷ before b s
 before-more b c s e = rw (e, one-add)
 
-after-more : (b c : ℕ) (s : List ℕ) → eqb c b ≡ false → after b (c ∷ s) ≡ after b s
+pub after-more : (b c : ℕ) (s : List ℕ) → eqb c b ≡ false → after b (c ∷ s) ≡ after b s
 after-more b c s e = rw (e, one-add, add-one, add-one)
 
 pub before-front : (b : ℕ) (f t : List ℕ) → Free b f → before b (f ++ b ∷ t) ≡ f
@@ -54,7 +54,7 @@ cut-whole b (c ∷ s) h = go (eqb c b) refl (cut-whole b s)
 -- ---- lines
 
 -- the first line, and the lines of what stands after it
-pub lines-step : (c : ℕ) (s : List ℕ) → lines (c ∷ s) ≡ before line-feed (c ∷ s) ∷ lines (after line-feed (c ∷ s))
+lines-step : (c : ℕ) (s : List ℕ) → lines (c ∷ s) ≡ before line-feed (c ∷ s) ∷ lines (after line-feed (c ∷ s))
 lines-step c [] = go (eqb c line-feed) refl
   where
     go : (x : Bool) → eqb c line-feed ≡ x → lines (c ∷ []) ≡ before line-feed (c ∷ []) ∷ lines (after line-feed (c ∷ []))
@@ -66,6 +66,10 @@ lines-step c (d ∷ s) = go (eqb c line-feed) refl (lines-step d s)
         → lines (c ∷ d ∷ s) ≡ before line-feed (c ∷ d ∷ s) ∷ lines (after line-feed (c ∷ d ∷ s))
     go true e ih = rw (before-none line-feed c (d ∷ s) e, after-none line-feed c (d ∷ s) e) (cond-true (eqb c line-feed) _ _ e)
     go false e ih = rw (before-more line-feed c (d ∷ s) e, after-more line-feed c (d ∷ s) e) (cond-false (eqb c line-feed) _ _ e ∙ ap (onto c) ih)
+
+pub lines-cut : (s : List ℕ) → 0 < length s → lines s ≡ before line-feed s ∷ lines (after line-feed s)
+lines-cut [] h = absurd (omega arith)
+lines-cut (c ∷ s) h = lines-step c s
 
 abbrev pub Again : List (List ℕ) → List ℕ → Type 0
 Again ls t = (ended ls ≡ t) ⊎ (ended ls ≡ t ++ line-feed ∷ [])

@@ -1,16 +1,15 @@
 -- What the check of one row takes: exactly the written rows that are lawful and new.
 use mathlib.Core.Path.{_≡_, refl, sym, ap, _∙_, subst}
-use mathlib.Core.Logic.{_⊎_, inl, inr}
-use mathlib.Core.Bool.{Bool, true, false, not, _&&_, _||_, cond}
+use mathlib.Core.Logic.{inl, inr}
+use mathlib.Core.Bool.{Bool, true, false, cond}
 use mathlib.Core.List.{List, [], _∷_, _++_}
-use Prim.Native.Nat.{ℕ, zero, suc, _+_, _-_, _^_, _≤_, _<_}
+use Prim.Native.Nat.{ℕ, _+_, _^_, _≤_, _<_}
 use native.Mathlib.Omega.{arith}
-use lib.Dec.{eqb, ltb, leb}
+use lib.Dec.{eqb, leb}
 use lib.IntN.{ℤ, natAbs}
-use lib.ListN.{length, take, length-take, length-append}
+use lib.ListN.{length, length-take, length-append}
 use Rattle.std.specs.declared.option.Option.{Option}
 use Rattle.std.specs.declared.option.Option.the-variants.{None, Some}
-use Rattle.std.specs.declared.result.Result.{Result}
 use Rattle.std.specs.declared.result.Result.the-variants.{Ok, Err}
 use Rattle.std.specs.Written.{decimal, signed}
 use Rattle.std.specs.shelf.Lists.{All}
@@ -19,8 +18,8 @@ use Rattle.std.proofs.shelf.Tests.{lt-leb, leb-false, eqb-false, ne-eqb, true�
 use Rattle.std.proofs.shelf.Elements.{all-append}
 use Rattle.labels.specs.Sets.{limit}
 use Rattle.survey_laws.specs.Sheets.{SurveyRow, SamePair, LawfulRow, most-points, comma, line-feed, row-written}
-use Rattle.survey_laws.specs.Check.{Wrong, same-point, wrong-form, out-of-range, repeated-pair, too-many-rows, number-in, shift-in, until, before, after, row-from, row-in, in-range, same-pair, met, judged, formed, next-row}
-use Rattle.survey_laws.proofs.Pieces.{Free, Line, before-front, after-front, cut-whole}
+use Rattle.survey_laws.specs.Check.{same-point, out-of-range, repeated-pair, too-many-rows, number-in, shift-in, until, before, after, row-from, row-in, in-range, same-pair, met, judged, formed, next-row}
+use Rattle.survey_laws.proofs.Pieces.{Line, before-front, after-front, cut-whole}
 use Rattle.survey_laws.proofs.Numbers.{none-some, number-in-is, number-in-decimal, number-some, shift-in-is, shift-in-signed, shift-some, free-decimal, free-signed}
 
 -- ---- the form
@@ -28,11 +27,18 @@ use Rattle.survey_laws.proofs.Numbers.{none-some, number-in-is, number-in-deci
 some-before : (b : ℕ) (s : List ℕ) → 0 < length (before b s) → 0 < length s
 some-before b s h = omega (arith, length-take (until b s) s)
 
-chained : {s s₁ s₂ s₃ f₁ f₂ f₃ l₁ l₂ l₃ l₄ : List ℕ} → s ≡ f₁ ++ comma ∷ s₁ → s₁ ≡ f₂ ++ comma ∷ s₂ → s₂ ≡ f₃ ++ comma ∷ s₃
+assembled : {s s₁ s₂ s₃ f₁ f₂ f₃ l₁ l₂ l₃ l₄ : List ℕ} → s ≡ f₁ ++ comma ∷ s₁ → s₁ ≡ f₂ ++ comma ∷ s₂ → s₂ ≡ f₃ ++ comma ∷ s₃
     → f₁ ≡ l₁ → f₂ ≡ l₂ → f₃ ≡ l₃ → s₃ ≡ l₄ → s ≡ l₁ ++ comma ∷ (l₂ ++ comma ∷ (l₃ ++ comma ∷ l₄))
-chained k₁ k₂ k₃ n₁ n₂ n₃ n₄ = cc
+assembled k₁ k₂ k₃ n₁ n₂ n₃ n₄ = cc
 
-pub row-in-is : (s : List ℕ) (r : SurveyRow) → row-in s ≡ Some r → s ≡ row-written r
+-- the numbers of the row have at most seven digits
+pub record Numbered (r : SurveyRow) : Type 0 where
+  pub a-short : r .a < 10 ^ 7
+  pub b-short : r .b < 10 ^ 7
+  pub across-short : natAbs (r .across) < 10 ^ 7
+  pub along-short : natAbs (r .along) < 10 ^ 7
+
+pub row-in-is : (s : List ℕ) (r : SurveyRow) → row-in s ≡ Some r → (s ≡ row-written r) × Numbered r
 unfolding row-in
 row-in-is s r e =
     go (number-in (before comma s)) refl (number-in (before comma (after comma s))) refl (shift-in (before comma (after comma (after comma s)))) refl
@@ -40,7 +46,7 @@ row-in-is s r e =
   where
     go : (p : Option ℕ) → number-in (before comma s) ≡ p → (q : Option ℕ) → number-in (before comma (after comma s)) ≡ q
         → (x : Option ℤ) → shift-in (before comma (after comma (after comma s))) ≡ x → (y : Option ℤ) → shift-in (after comma (after comma (after comma s))) ≡ y
-        → row-from p q x y ≡ Some r → s ≡ row-written r
+        → row-from p q x y ≡ Some r → (s ≡ row-written r) × Numbered r
     go None e₁ q e₂ x e₃ y e₄ e = absurd (none-some e)
     go (Some a) e₁ None e₂ x e₃ y e₄ e = absurd (none-some e)
     go (Some a) e₁ (Some b) e₂ None e₃ y e₄ e = absurd (none-some e)
@@ -55,19 +61,14 @@ row-in-is s r e =
         let k₁ = cut-whole comma s h₁ in
         let k₂ = cut-whole comma s₁ h₂ in
         let k₃ = cut-whole comma s₂ h₃ in
-        let n₁ = number-in-is (before comma s) a e₁ .0 in
-        let n₂ = number-in-is (before comma s₁) b e₂ .0 in
-        let n₃ = shift-in-is (before comma s₂) v e₃ .0 in
-        let n₄ = shift-in-is s₃ w e₄ .0 in
-        let k : record { a = a; b = b; across = v; along = w } ≡ r = cc in
-        chained k₁ k₂ k₃ n₁ n₂ n₃ n₄ ∙ ap row-written k
-
--- the numbers of the row have at most seven digits
-pub record Numbered (r : SurveyRow) : Type 0 where
-  pub a-short : r .a < 10 ^ 7
-  pub b-short : r .b < 10 ^ 7
-  pub across-short : natAbs (r .across) < 10 ^ 7
-  pub along-short : natAbs (r .along) < 10 ^ 7
+        let n₁ = number-in-is (before comma s) a e₁ in
+        let n₂ = number-in-is (before comma s₁) b e₂ in
+        let n₃ = shift-in-is (before comma s₂) v e₃ in
+        let n₄ = shift-in-is s₃ w e₄ in
+        let k : record { a = a; b = b; across = v; along = w } ≡ r = cc in (
+          assembled k₁ k₂ k₃ (n₁ .0) (n₂ .0) (n₃ .0) (n₄ .0) ∙ ap row-written k,
+          subst Numbered k (record { a-short = n₁ .1; b-short = n₂ .1; across-short = n₃ .1; along-short = n₄ .1 }),
+        )
 
 row-in-parts : (s : List ℕ) (r : SurveyRow) → number-in (before comma s) ≡ Some (r .a) → number-in (before comma (after comma s)) ≡ Some (r .b)
     → shift-in (before comma (after comma (after comma s))) ≡ Some (r .across) → shift-in (after comma (after comma (after comma s))) ≡ Some (r .along) → row-in s ≡ Some r
@@ -93,12 +94,17 @@ row-in-written r N =
 
 -- a written row is a line
 pub row-line : (r : SurveyRow) → Numbered r → Line (row-written r)
-row-line r N =
-    (all-append Fed (decimal (r .a)) _ (free-decimal line-feed (r .a) (omega arith) (N .a-short))
-     (refl, all-append Fed (decimal (r .b)) _ (free-decimal line-feed (r .b) (omega arith) (N .b-short))
-      (refl, all-append Fed (signed (r .across)) _ (free-signed line-feed (r .across) (omega arith) (N .across-short))
-       (refl, free-signed line-feed (r .along) (omega arith) (N .along-short)))),
-     simp length-append (omega arith))
+row-line r N = (
+  all-append Fed (decimal (r .a)) _ (free-decimal line-feed (r .a) (omega arith) (N .a-short)) (
+    refl,
+    all-append Fed (decimal (r .b)) _ (free-decimal line-feed (r .b) (omega arith) (N .b-short)) (
+      refl,
+      all-append Fed (signed (r .across)) _ (free-signed line-feed (r .across) (omega arith) (N .across-short))
+          (refl, free-signed line-feed (r .along) (omega arith) (N .along-short)),
+    ),
+  ),
+  simp length-append (omega arith),
+)
   where
     Fed : ℕ → Type 0
     Fed c = eqb c line-feed ≡ false
@@ -189,12 +195,18 @@ next-row-is p done l r e = go (leb limit (length done)) refl (row-in l) refl e
     go true h o i e = absurd (err-ok e)
     go false h None i e = absurd (err-ok e)
     go false h (Some q) i e =
-        let k = judged-is p done q r e in
-        (row-in-is l q i ∙ ap row-written (k .0),
-         record { room = leb-false limit (length done) h; lawful = subst (LawfulRow p) (k .0) (k .1); unmet = subst (Unmet done) (k .0) (k .2) })
+        let k = judged-is p done q r e in (
+          row-in-is l q i .0 ∙ ap row-written (k .0),
+          record { room = leb-false limit (length done) h; lawful = subst (LawfulRow p) (k .0) (k .1); unmet = subst (Unmet done) (k .0) (k .2) },
+        )
 
 pub next-row-written : (p : ℕ) (done : List SurveyRow) (r : SurveyRow) → p ≤ most-points → Fitting p done r → next-row p done (row-written r) ≡ Ok r
 unfolding next-row judged
 next-row-written p done r h F =
-    rw (lt-leb limit (length done) (F .room), row-in-written r (numbered p r h (F .lawful)), in-range-passes p r (F .lawful),
-        ne-eqb (r .a) (r .b) (F .lawful .apart), met-passes done r (F .unmet))
+    rw (
+      lt-leb limit (length done) (F .room),
+      row-in-written r (numbered p r h (F .lawful)),
+      in-range-passes p r (F .lawful),
+      ne-eqb (r .a) (r .b) (F .lawful .apart),
+      met-passes done r (F .unmet),
+    )

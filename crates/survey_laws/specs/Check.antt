@@ -40,6 +40,11 @@ pub data Outcome : Type 0 where
 abbrev pub most-digits : ℕ
 most-digits = 7
 
+-- what stands before a number below zero
+abbrev pub minus-sign : ℕ
+minus-sign = 45
+
+-- the bytes 48 to 57
 abbrev pub isDigit : ℕ → Bool
 isDigit c = cond (ltb c 48) false (ltb c 58)
 
@@ -53,21 +58,24 @@ abbrev pub read-on : ℕ → List ℕ → Option ℕ
 read-on n [] = Some n
 read-on n (c ∷ cs) = cond (isDigit c) (read-on (n * 10 + (c - 48)) cs) None
 
+-- the number that s writes, if it has the form
 unfoldable pub number-in : List ℕ → Option ℕ
 number-in s = cond (sized s) (read-on 0 s) None
 
+-- a number with no minus
 abbrev pub plain : Option ℕ → Option ℤ
 plain None = None
 plain (Some n) = Some (pos n)
 
--- a minus stands only before a nonzero number
+-- a number after a minus, which stands only before a nonzero one
 abbrev pub negative : Option ℕ → Option ℤ
 negative None = None
 negative (Some zero) = None
 negative (Some (suc n)) = Some (negsuc n)
 
+-- the shift that s writes, if it has the form
 unfoldable pub shift-in : List ℕ → Option ℤ
-shift-in s = cond (eqb (getD s 0 0) 45) (negative (number-in (drop 1 s))) (plain (number-in s))
+shift-in s = cond (eqb (getD s 0 0) minus-sign) (negative (number-in (drop 1 s))) (plain (number-in s))
 
 -- ---- rows
 
@@ -75,13 +83,15 @@ shift-in s = cond (eqb (getD s 0 0) 45) (negative (number-in (drop 1 s))) (plain
 abbrev pub until : ℕ → List ℕ → ℕ
 until b s = leading (λ c. not (eqb c b)) s
 
--- what stands before the first b (all of s, if there is none) and what stands after it
+-- what stands before the first b; all of s, if there is none
 abbrev pub before : ℕ → List ℕ → List ℕ
 before b s = take (until b s) s
 
+-- what stands after the first b
 abbrev pub after : ℕ → List ℕ → List ℕ
 after b s = drop (until b s + 1) s
 
+-- the byte c in front of the first line
 abbrev pub onto : ℕ → List (List ℕ) → List (List ℕ)
 onto c [] = (c ∷ []) ∷ []
 onto c (l ∷ ls) = (c ∷ l) ∷ ls
@@ -91,6 +101,7 @@ abbrev pub lines : List ℕ → List (List ℕ)
 lines [] = []
 lines (c ∷ cs) = cond (eqb c line-feed) ([] ∷ lines cs) (onto c (lines cs))
 
+-- f of the value, if there is one
 abbrev pub and-then : {X Y : Type 0} → Option X → (X → Option Y) → Option Y
 and-then None f = None
 and-then (Some x) f = f x
@@ -112,12 +123,15 @@ row-in s =
 abbrev pub isPoint : ℕ → ℕ → Bool
 isPoint p x = cond (eqb x 0) false (leb x p)
 
+-- a shift is not too far
 abbrev pub reaches : ℤ → Bool
 reaches z = leb (natAbs z) furthest
 
+-- all four numbers of a row are in range
 abbrev pub in-range : ℕ → SurveyRow → Bool
 in-range p r = isPoint p (r .a) && (isPoint p (r .b) && (reaches (r .across) && reaches (r .along)))
 
+-- two rows have the same pair of points, either way round
 abbrev pub same-pair : SurveyRow → SurveyRow → Bool
 same-pair q r = (eqb (q .a) (r .a) && eqb (q .b) (r .b)) || (eqb (q .a) (r .b) && eqb (q .b) (r .a))
 
@@ -133,6 +147,7 @@ unfoldable pub judged : ℕ → List SurveyRow → SurveyRow → Result SurveyRo
 judged p done r =
     cond (in-range p r) (cond (eqb (r .a) (r .b)) (Err same-point) (cond (met done r) (Err repeated-pair) (Ok r))) (Err out-of-range)
 
+-- a line that has no row has the wrong form
 abbrev pub formed : Option SurveyRow → (SurveyRow → Result SurveyRow Wrong) → Result SurveyRow Wrong
 formed None f = Err wrong-form
 formed (Some r) f = f r
@@ -141,15 +156,17 @@ formed (Some r) f = f r
 unfoldable pub next-row : ℕ → List SurveyRow → List ℕ → Result SurveyRow Wrong
 next-row p done l = cond (leb limit (length done)) (Err too-many-rows) (formed (row-in l) (judged p done))
 
+-- on with the row, or stop at what is wrong with row n
 abbrev pub follow : Result SurveyRow Wrong → ℕ → (SurveyRow → Outcome) → Outcome
 follow (Ok r) n f = f r
 follow (Err w) n f = refused w n
 
--- the lines after the first, downwards, after the rows `done`; the first line and these stand above
+-- the lines ls downwards, after the first line and the lines of the rows `done`
 abbrev pub read-rows : ℕ → List SurveyRow → List (List ℕ) → Outcome
 read-rows p done [] = accepted (record { points = p; rows = done })
 read-rows p done (l ∷ ls) = follow (next-row p done l) (length done + 2) (λ r. read-rows p (done ++ r ∷ []) ls)
 
+-- the number of points, if it is one and in range
 abbrev pub counted : Option ℕ → Result ℕ Wrong
 counted None = Err wrong-form
 counted (Some p) = cond (isPoint most-points p) (Ok p) (Err out-of-range)
@@ -158,13 +175,16 @@ counted (Some p) = cond (isPoint most-points p) (Ok p) (Err out-of-range)
 abbrev pub first-line : List ℕ → Result ℕ Wrong
 first-line l = counted (number-in l)
 
+-- the lines ls after the first
 abbrev pub headed : Result ℕ Wrong → List (List ℕ) → Outcome
 headed (Ok p) ls = read-rows p [] ls
 headed (Err w) ls = refused w 1
 
+-- all lines; there has to be one
 abbrev pub read-lines : List (List ℕ) → Outcome
 read-lines [] = refused wrong-form 1
 read-lines (l ∷ ls) = headed (first-line l) ls
 
+-- what comes of a text
 unfoldable pub check : List ℕ → Outcome
 check text = read-lines (lines text)

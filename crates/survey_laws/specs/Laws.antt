@@ -37,5 +37,14 @@ Refuses-first = (text : List ℕ) (w : Wrong) (n : ℕ) → check text ≡ refus
 abbrev pub most-bytes : ℕ
 most-bytes = 1155
 
+-- no lawful sheet is longer
 abbrev pub Short : Type 0
 Short = (s : Sheet) → Lawful s → length (written s) ≤ most-bytes
+
+-- how many bytes of a text decide what comes of it: those of a lawful sheet, and then more than a row of the right form has
+abbrev pub enough-bytes : ℕ
+enough-bytes = most-bytes + 34
+
+-- what stands further down is never read
+abbrev pub Front-decides : Type 0
+Front-decides = (text : List ℕ) (n : ℕ) → enough-bytes ≤ n → check (take n text) ≡ check text

@@ -17,6 +17,7 @@ pub record SurveyRow : Type 0 where
   pub across : ℤ
   pub along : ℤ
 
+-- how many points, and the rows in their order
 pub record Sheet : Type 0 where
   pub points : ℕ
   pub rows : List SurveyRow
@@ -48,6 +49,7 @@ pub record LawfulRow (p : ℕ) (r : SurveyRow) : Type 0 where
   pub along-reaches : natAbs (r .along) ≤ furthest
   pub apart : r .a ≡ r .b → ⊥
 
+-- a survey that can be read
 pub record Lawful (s : Sheet) : Type 0 where
   pub some-points : 1 ≤ s .points
   pub few-points : s .points ≤ most-points
@@ -57,9 +59,11 @@ pub record Lawful (s : Sheet) : Type 0 where
 
 -- ---- how it is written
 
+-- what stands between numbers
 abbrev pub comma : ℕ
 comma = 44
 
+-- what stands after a line
 abbrev pub line-feed : ℕ
 line-feed = 10
 

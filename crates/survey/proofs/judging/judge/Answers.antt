@@ -11,16 +11,16 @@ pub returns-then-row : need.returns-then-row
 returns-then-row c =
     let s = c .args .survey .now in
     sym (judged-same (s .points) (rows-of s) (row-of (c .narrowed-row .result)) (fields-of (c .args .f)) (c .narrowed-row .ensures)
-         (sym (c .if-not-is-in-range .ensures tt)) (c .if-row .taken))
+    (sym (c .if-not-is-in-range .ensures tt)) (c .if-row .taken))
 
 pub returns-then-has-pair : need.returns-then-has-pair
 returns-then-has-pair c =
     let s = c .args .survey .now in
     sym (judged-met (s .points) (rows-of s) (row-of (c .narrowed-row .result)) (fields-of (c .args .f)) (c .narrowed-row .ensures)
-         (sym (c .if-not-is-in-range .ensures tt)) (c .if-row .left) (sym (c .if-has-pair .ensures tt)))
+    (sym (c .if-not-is-in-range .ensures tt)) (c .if-row .left) (sym (c .if-has-pair .ensures tt)))
 
 pub returns : need.returns
 returns c =
     let s = c .args .survey .now in
     sym (judged-fine (s .points) (rows-of s) (row-of (c .narrowed-row .result)) (fields-of (c .args .f)) (c .narrowed-row .ensures)
-         (sym (c .if-not-is-in-range .ensures tt)) (c .if-row .left) (sym (c .if-has-pair .ensures tt)))
+    (sym (c .if-not-is-in-range .ensures tt)) (c .if-row .left) (sym (c .if-has-pair .ensures tt)))

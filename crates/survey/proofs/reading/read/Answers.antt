@@ -1,7 +1,9 @@
 use mathlib.Core.Path.{sym, _∙_}
 use Rattle.std.specs.declared.result.Result.the-variants.{Ok, Err}
 use Rattle.survey_laws.proofs.Accepts.{accepts-exactly}
-use Rattle.survey_laws.proofs.Refuses.{refuses-first, short}
+use Rattle.survey_laws.proofs.Refuses.{refuses-first}
+use Rattle.survey_laws.proofs.Lengths.{short}
+use Rattle.survey_laws.proofs.Fronts.{front-decides}
 use Rattle.survey.specs.View.{wrong-of}
 use Rattle.survey.proofs.Ways.{check-step, same-rows}
 use Rattle.survey.proofs.reading.read.Needs as need
@@ -12,6 +14,7 @@ returns-in-Err c = record {
   accepts = accepts-exactly;
   refuses = refuses-first;
   short = short;
+  front = front-decides;
 }
 
 pub returns-in-Ok : need.returns-in-Ok
@@ -21,4 +24,5 @@ returns-in-Ok c = record {
   accepts = accepts-exactly;
   refuses = refuses-first;
   short = short;
+  front = front-decides;
 }

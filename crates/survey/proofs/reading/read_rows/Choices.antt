@@ -8,7 +8,7 @@ use Rattle.survey.proofs.reading.read_rows.Given as given
 abbrev pub Inv-loop-at : given.InvT-loop-at
 Inv-loop-at l =
     (read-rows (l .survey .points) (rows-of (l .survey)) (lines (drop (l .at) (l .text)))
-     ≡ read-rows (l .entry .survey .points) (rows-of (l .entry .survey)) (lines (drop (l .entry .at) (l .text))))
+    ≡ read-rows (l .entry .survey .points) (rows-of (l .entry .survey)) (lines (drop (l .entry .at) (l .text))))
     × (l .at ≤ length (l .text) + 1)
 
 abbrev pub μ-loop-at : given.MeasureT-loop-at

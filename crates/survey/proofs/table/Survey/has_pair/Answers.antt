@@ -6,17 +6,11 @@ use Rattle.survey.proofs.table.Survey.has_pair.Needs as need
 
 pub returns-then-is-same-pair : need.returns-then-is-same-pair
 returns-then-is-same-pair c =
-    let s = c .args .self .now in
-    sym (met-here (s .rows) (s .count) (omega (arith, s .fits, s .whole)) (c .loop-i .i) _ (row-of (c .args .row)) (c .loop-i-test .taken) (sym (c .if-is-same-pair .ensures tt)))
-    ∙ c .loop-i .inv
+    sym (met-here (c .args .self .now) (c .loop-i .i) _ (row-of (c .args .row)) (omega arith) (sym (c .if-is-same-pair .ensures tt))) ∙ c .loop-i .inv
 
 pub loop-i-again : need.loop-i-again
 loop-i-again c =
-    let s = c .args .self .now in
-    sym (met-more (s .rows) (s .count) (omega (arith, s .fits, s .whole)) (c .loop-i .i) _ (row-of (c .args .row)) (c .loop-i-test .taken) (sym (c .if-is-same-pair .ensures tt)))
-    ∙ c .loop-i .inv
+    sym (met-more (c .args .self .now) (c .loop-i .i) _ (row-of (c .args .row)) (omega arith) (sym (c .if-is-same-pair .ensures tt))) ∙ c .loop-i .inv
 
 pub returns : need.returns
-returns c =
-    let s = c .args .self .now in
-    sym (met-end (s .rows) (s .count) (omega (arith, s .fits, s .whole)) (c .loop-i .i) (row-of (c .args .row)) (c .loop-i-test .left)) ∙ c .loop-i .inv
+returns c = sym (met-end (c .args .self .now) (c .loop-i .i) (row-of (c .args .row)) (omega arith)) ∙ c .loop-i .inv
