@@ -47,7 +47,11 @@ pub fn swapped(set: u64, a: u8, b: u8) -> u64
 pub fn full_to(n: u8) -> u64
     ensures { λ r. ⌜ r ≡ full (min n 64) ⌝ }
 {
-    if n >= WIDTH { u64::MAX } else { (1u64 << n) - 1 }
+    if n >= WIDTH {
+        u64::MAX
+    } else {
+        (1u64 << n) - 1
+    }
 }
 
 /// The active labels after an exchange at `label`: all below it, not itself, and those above as they were.

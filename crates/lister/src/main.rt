@@ -13,6 +13,7 @@ use std::io::Write;
 use survey_walk::SurveyWalk;
 use survey_walk::walk_of;
 use tie_rule::ClosestRule;
+use walk::Parts;
 use walk::SetEntry;
 use walk::Stop;
 
@@ -91,7 +92,12 @@ fn run(rt: &LibcRuntime) -> Result<(), AnyError> {
             let mut walk = begun;
             let mut out = BufWriter::new(rt.stdout());
             let written = write_all(&mut out, &mut walk);
-            let (_, _, _, _) = walk.close();
+            let Parts {
+                matroid: _,
+                rule: _,
+                measure: _,
+                view: _,
+            } = walk.close();
             Ok(written?)
         }
         Err(refusal) => {

@@ -12,5 +12,4 @@ pub fn bases_hold()
     ensures starts { λ _. ⌜ Starts-at-base ⌝ }
     ensures ranks { λ _. ⌜ Greedy-ranks ⌝ }
     ensures uniform { λ _. ⌜ Uniform-is ⌝ }
-{
-}
+{}

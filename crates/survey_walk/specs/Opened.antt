@@ -35,7 +35,7 @@ setting-for edges shifts = record {
 
 -- the rule that keeps no state
 abbrev pub closest : Closest
-closest = record { }
+closest = record {}
 
 abbrev pub survey-setting : Sheet → Setting Closest Shift
 survey-setting s = setting-for (edges-of s) (shifts-for s)

@@ -9,6 +9,7 @@ ghost use Rattle.walk.specs.States.{Based, setting, setting-of, state-of};
 ghost use mathlib.Core.Bool.{true};
 ghost use mathlib.Core.List.{[]};
 ghost use mathlib.Core.Path.{_≡_};
+use crate::Parts;
 use crate::Walk;
 use label_words::contains;
 use label_words::full_to;
@@ -78,8 +79,13 @@ impl<P: Matroid, R: TieRule, M: Measure> Walk<P, R, M> {
     fn value_after(&self, exchange: Exchange) -> M::Value
         ensures { λ r. ⌜ r ≡ value-after (setting-of P·Matroid R·TieRule M·Measure (now (self .entry))) (state-of (now (self .entry))) exchange ⌝ }
     {
-        let gained = self.measure.sum(self.value, self.measure.worth(exchange.entering()));
-        self.measure.sum(gained, self.measure.opposite(self.measure.worth(exchange.leaving())))
+        let gained = self.measure
+            .sum(self.value, self.measure.worth(exchange.entering()));
+        self.measure.sum(
+            gained,
+            self.measure
+                .opposite(self.measure.worth(exchange.leaving())),
+        )
     }
 
     /// Makes the exchange at the active label `label`, with one of the candidates `found`.
@@ -94,7 +100,11 @@ impl<P: Matroid, R: TieRule, M: Measure> Walk<P, R, M> {
     {
         let came = !contains(self.present, label);
         let low = self.rule.choose(label, found);
-        let exchange = Exchange { high: label, low, came };
+        let exchange = Exchange {
+            high: label,
+            low,
+            came,
+        };
         let value = self.value_after(exchange);
         self.present = swapped(self.present, label, low);
         self.active = reopened(self.active, label);
@@ -123,14 +133,28 @@ impl<P: Matroid, R: TieRule, M: Measure> Walk<P, R, M> {
     }
 
     /// Takes the walk apart, and gives back all that it held.
-    pub fn close(self) -> (P, R, M, View<M::Value>)
-        ensures matroid { λ r. ⌜ r .0 ≡ self .matroid ⌝ }
-        ensures rule { λ r. ⌜ r .1 ≡ self .rule ⌝ }
-        ensures measure { λ r. ⌜ r .2 ≡ self .measure ⌝ }
-        ensures view { λ r. ⌜ r .3 ≡ view-of (state-of self) ⌝ }
+    pub fn close(self) -> Parts<P, R, M, M::Value>
+        ensures matroid { λ r. ⌜ r .matroid ≡ self .matroid ⌝ }
+        ensures rule { λ r. ⌜ r .rule ≡ self .rule ⌝ }
+        ensures measure { λ r. ⌜ r .measure ≡ self .measure ⌝ }
+        ensures view { λ r. ⌜ r .view ≡ view-of (state-of self) ⌝ }
     {
-        let Walk { matroid, rule, measure, present, active, count, value, total } = self;
-        let view = View { present, active, count, value, total };
-        (matroid, rule, measure, view)
+        let view = self.look();
+        let Walk {
+            matroid,
+            rule,
+            measure,
+            present: _,
+            active: _,
+            count: _,
+            value: _,
+            total: _,
+        } = self;
+        Parts {
+            matroid,
+            rule,
+            measure,
+            view,
+        }
     }
 }

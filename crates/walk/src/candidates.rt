@@ -23,7 +23,8 @@ impl<P: Matroid, R: TieRule, M: Measure> Walk<P, R, M> {
         for i in 0..label.saturating_sub(1) {
             let other = i + 1;
             if contains(self.present, other) != inside {
-                if self.matroid.is_independent(swapped(self.present, label, other)) {
+                if self.matroid
+                    .is_independent(swapped(self.present, label, other)) {
                     found = inserted(found, other);
                 }
             }
@@ -35,11 +36,11 @@ impl<P: Matroid, R: TieRule, M: Measure> Walk<P, R, M> {
     pub(crate) fn movable(&self) -> Option<(u8, u64)>
         ensures { λ r. ⌜ Cases r
             ((d : ℕ) → 1 ≤ d → d ≤ P·Matroid .size (now (self .entry) .matroid) → has (now (self .entry) .active) d ≡ true
-                → partners (P·Matroid .independent (now (self .entry) .matroid)) (now (self .entry) .present) d ≡ 0)
+            → partners (P·Matroid .independent (now (self .entry) .matroid)) (now (self .entry) .present) d ≡ 0)
             (λ x. (1 ≤ x .0) × (x .0 ≤ P·Matroid .size (now (self .entry) .matroid)) × (has (now (self .entry) .active) (x .0) ≡ true)
-                × (x .1 ≡ partners (P·Matroid .independent (now (self .entry) .matroid)) (now (self .entry) .present) (x .0)) × (0 < x .1)
-                × ((d : ℕ) → d < x .0 → has (now (self .entry) .active) d ≡ true
-                    → partners (P·Matroid .independent (now (self .entry) .matroid)) (now (self .entry) .present) d ≡ 0)) ⌝ }
+            × (x .1 ≡ partners (P·Matroid .independent (now (self .entry) .matroid)) (now (self .entry) .present) (x .0)) × (0 < x .1)
+            × ((d : ℕ) → d < x .0 → has (now (self .entry) .active) d ≡ true
+            → partners (P·Matroid .independent (now (self .entry) .matroid)) (now (self .entry) .present) d ≡ 0)) ⌝ }
     {
         for i in 0..self.matroid.size() {
             let label = i + 1;

@@ -87,7 +87,6 @@ module _ {R V : Type 0} (w : Setting R V) where
       inside = λ j h. inside k j s h;
     }
 
-
 -- ---- one turn of a list
 
 module _ {R V : Type 0} (w : Setting R V) where
@@ -99,7 +98,7 @@ module _ {R V : Type 0} (w : Setting R V) where
     where
       go : (p : Option Exchange × State R V) → go-on w (several w j) p .1 ≡ Full → step w (go-on w (several w j) p .2) ≡ (Some x, u)
           → ((s u : State R V) (x : Exchange) → several w j s .1 ≡ Full → step w (several w j s .2) ≡ (Some x, u)
-              → several w (suc j) s ≡ (several w j s .0 ++ ((x, u .present) ∷ []), Full, u))
+          → several w (suc j) s ≡ (several w j s .0 ++ ((x, u .present) ∷ []), Full, u))
           → go-on w (several w (suc j)) p ≡ (go-on w (several w j) p .0 ++ ((x, u .present) ∷ []), Full, u)
       go (None, t) f q ih = absurd (full-not-finished Finished f refl)
       go (Some y, t) f q ih = ap (in-front w (y, t .present)) (ih t u x f q)

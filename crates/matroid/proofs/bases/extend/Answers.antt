@@ -16,13 +16,13 @@ loop-i-again g c =
     let few = g .M·Matroid·met .few (c .args .matroid .now) in let size = c .size-i-end .ensures in
     let small : i + 1 ≤ 64 = omega arith in
     elim (c .if-contains .came) [
-      then-contains·then-is-independent w ↦
-        let more = insert-is h (i + 1) _ (omega arith) small (w .inserted-more .ensures) in
-        w .held-is ∙ more ∙ joins f s k i h inv (sym (c .contains .ensures) ∙ w .if-contains .taken) (sym (ap f more) ∙ sym (w .is-independent .ensures) ∙ w .if-is-independent .taken)
-    | then-contains·else-is-independent w ↦
-        let more = insert-is h (i + 1) _ (omega arith) small (w .inserted-more .ensures) in
-        w .held-is ∙ barred f s k i h inv (sym (c .contains .ensures) ∙ w .if-contains .taken) (sym (ap f more) ∙ sym (w .is-independent .ensures) ∙ w .if-is-independent .left)
-    | else-contains w ↦ w .held-is ∙ skipped f s k i h inv (sym (c .contains .ensures) ∙ w .if-contains .left)
+      | then-contains·then-is-independent w ↦
+          let more = insert-is h (i + 1) _ (omega arith) small (w .inserted-more .ensures) in
+          w .held-is ∙ more ∙ joins f s k i h inv (sym (c .contains .ensures) ∙ w .if-contains .taken) (sym (ap f more) ∙ sym (w .is-independent .ensures) ∙ w .if-is-independent .taken)
+      | then-contains·else-is-independent w ↦
+          let more = insert-is h (i + 1) _ (omega arith) small (w .inserted-more .ensures) in
+          w .held-is ∙ barred f s k i h inv (sym (c .contains .ensures) ∙ w .if-contains .taken) (sym (ap f more) ∙ sym (w .is-independent .ensures) ∙ w .if-is-independent .left)
+      | else-contains w ↦ w .held-is ∙ skipped f s k i h inv (sym (c .contains .ensures) ∙ w .if-contains .left)
     ]
 
 pub returns : need.returns

@@ -15,9 +15,9 @@ loop-i-again g c =
     let few = g .M·Matroid·met .few (c .args .matroid .now) in let size = c .size-i-end .ensures in
     let small : i + 1 ≤ 64 = omega arith in
     let out : could-join f b (i + 1) ≡ false = elim (c .if-not-contains .came) [
-      then-not-contains·else-is-independent w ↦
-        cannot f b (i + 1) (sym (ap f (insert-is b (i + 1) _ (omega arith) small (w .inserted .ensures))) ∙ sym (w .is-independent-then-not-contains .ensures) ∙ w .if-is-independent .left)
-    | else-not-contains w ↦ in-it f b (i + 1) (sym (c .contains .ensures) ∙ w .if-not-contains .left)
+      | then-not-contains·else-is-independent w ↦
+          cannot f b (i + 1) (sym (ap f (insert-is b (i + 1) _ (omega arith) small (w .inserted .ensures))) ∙ sym (w .is-independent-then-not-contains .ensures) ∙ w .if-is-independent .left)
+      | else-not-contains w ↦ in-it f b (i + 1) (sym (c .contains .ensures) ∙ w .if-not-contains .left)
     ] in
     one-more f b i (c .loop-i .inv) out
 
@@ -40,5 +40,5 @@ returns-then-is-independent g c =
     let few = g .M·Matroid·met .few (c .args .matroid .now) in let size = c .size-i-end .ensures in let i = c .loop-i .i in
     let small : i + 1 ≤ 64 = omega arith in
     let q = not-full n f (c .args .set) (i + 1) (omega arith) (omega arith) (sym (c .if-not-contains .ensures tt))
-        (sym (ap f (insert-is (c .args .set) (i + 1) _ (omega arith) small (c .inserted .ensures))) ∙ sym (c .is-independent-then-not-contains .ensures) ∙ c .if-is-independent .taken) in
+    (sym (ap f (insert-is (c .args .set) (i + 1) _ (omega arith) small (c .inserted .ensures))) ∙ sym (c .is-independent-then-not-contains .ensures) ∙ c .if-is-independent .taken) in
     record { tested = sym q; base = tells-base n f (c .args .set) _ q }

@@ -16,18 +16,18 @@ loop-i-again g c =
     let i = c .loop-i .i in let t = swappable f s e in let end = c .saturating-sub-i-end .ensures in
     let small : i + 1 ≤ 64 = omega arith in let high : 1 ≤ e = omega arith in
     elim (c .if-contains-inside .came) [
-      then-contains-inside·then-is-independent w ↦
-        let made = swap-is s e (i + 1) _ high (c .pre) (omega arith) small (w .swapped .ensures) in
-        w .found-is ∙ insert-is (c .loop-i .found) (i + 1) _ (omega arith) small (w .inserted-found .ensures)
-        ∙ passes t i (c .loop-i .found) (c .loop-i .inv)
-        (apart-both (has s (i + 1)) (has s e) _ _ (c .contains .ensures) (c .contains-inside .ensures) (f (swap s e (i + 1))) (w .if-contains-inside .taken) (sym (ap f made) ∙ sym (w .is-independent .ensures) ∙ w .if-is-independent .taken))
-    | then-contains-inside·else-is-independent w ↦
-        let made = swap-is s e (i + 1) _ high (c .pre) (omega arith) small (w .swapped .ensures) in
-        w .found-is ∙ fails t i (c .loop-i .found) (c .loop-i .inv)
-        (apart-first (has s (i + 1)) (has s e) _ _ (c .contains .ensures) (c .contains-inside .ensures) (f (swap s e (i + 1))) (w .if-contains-inside .taken) (sym (ap f made) ∙ sym (w .is-independent .ensures) ∙ w .if-is-independent .left))
-    | else-contains-inside w ↦
-        w .found-is ∙ fails t i (c .loop-i .found) (c .loop-i .inv)
-        (apart-none (has s (i + 1)) (has s e) _ _ (c .contains .ensures) (c .contains-inside .ensures) (f (swap s e (i + 1))) (w .if-contains-inside .left))
+      | then-contains-inside·then-is-independent w ↦
+          let made = swap-is s e (i + 1) _ high (c .pre) (omega arith) small (w .swapped .ensures) in
+          w .found-is ∙ insert-is (c .loop-i .found) (i + 1) _ (omega arith) small (w .inserted-found .ensures)
+          ∙ passes t i (c .loop-i .found) (c .loop-i .inv)
+          (apart-both (has s (i + 1)) (has s e) _ _ (c .contains .ensures) (c .contains-inside .ensures) (f (swap s e (i + 1))) (w .if-contains-inside .taken) (sym (ap f made) ∙ sym (w .is-independent .ensures) ∙ w .if-is-independent .taken))
+      | then-contains-inside·else-is-independent w ↦
+          let made = swap-is s e (i + 1) _ high (c .pre) (omega arith) small (w .swapped .ensures) in
+          w .found-is ∙ fails t i (c .loop-i .found) (c .loop-i .inv)
+          (apart-first (has s (i + 1)) (has s e) _ _ (c .contains .ensures) (c .contains-inside .ensures) (f (swap s e (i + 1))) (w .if-contains-inside .taken) (sym (ap f made) ∙ sym (w .is-independent .ensures) ∙ w .if-is-independent .left))
+      | else-contains-inside w ↦
+          w .found-is ∙ fails t i (c .loop-i .found) (c .loop-i .inv)
+          (apart-none (has s (i + 1)) (has s e) _ _ (c .contains .ensures) (c .contains-inside .ensures) (f (swap s e (i + 1))) (w .if-contains-inside .left))
     ]
 
 pub returns : need.returns

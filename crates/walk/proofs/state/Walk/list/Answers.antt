@@ -33,11 +33,10 @@ loop-appended-again g c =
     let inv = c .loop-appended .inv in let told = c .in-Some .ensures tt in
     let roll = c .loop-appended .roll in let s = c .loop-appended .self in let first = c .args .self .now in
     let room : roll .used < size roll =
-        omega (arith, eqb-false (roll .used) (size roll) (sym (c .is-full .ensures) ∙ c .if-is-full .left), roll .fits) in
+    omega (arith, eqb-false (roll .used) (size roll) (sym (c .is-full .ensures) ∙ c .if-is-full .left), roll .fits) in
     let more = c .append .ensures .added room in
     let same : setting-of (g .P·Matroid) (g .R·TieRule) (g .M·Measure) s ≡ setting-of (g .P·Matroid) (g .R·TieRule) (g .M·Measure) first =
-        λ i. setting (g .P·Matroid) (g .R·TieRule) (g .M·Measure) (inv .0 i) (inv .1 i) in
-    (
+    λ i. setting (g .P·Matroid) (g .R·TieRule) (g .M·Measure) (inv .0 i) (inv .1 i) in (
       told .matroid ∙ inv .0,
       told .measure ∙ inv .1,
       omega (arith, told .cases, inv .2),
@@ -56,7 +55,7 @@ pub loop-appended-less : need.loop-appended-less
 loop-appended-less g c =
     let inv = c .loop-appended .inv in let roll = c .loop-appended .roll in
     let room : roll .used < size roll =
-        omega (arith, eqb-false (roll .used) (size roll) (sym (c .is-full .ensures) ∙ c .if-is-full .left), roll .fits) in
+    omega (arith, eqb-false (roll .used) (size roll) (sym (c .is-full .ensures) ∙ c .if-is-full .left), roll .fits) in
     let more = c .append .ensures .added room in
     omega (arith, more .2, inv .5)
 
@@ -83,9 +82,9 @@ returns-in-rest g c =
     let inv = c .loop-appended .inv in let roll = c .loop-appended .roll in let s = c .loop-appended .self in let first = c .args .self .now in
     let told = c .in-rest .ensures tt in
     let room : roll .used < size roll =
-        omega (arith, eqb-false (roll .used) (size roll) (sym (c .is-full .ensures) ∙ c .if-is-full .left), roll .fits) in
+    omega (arith, eqb-false (roll .used) (size roll) (sym (c .is-full .ensures) ∙ c .if-is-full .left), roll .fits) in
     let same : setting-of (g .P·Matroid) (g .R·TieRule) (g .M·Measure) s ≡ setting-of (g .P·Matroid) (g .R·TieRule) (g .M·Measure) first =
-        λ i. setting (g .P·Matroid) (g .R·TieRule) (g .M·Measure) (inv .0 i) (inv .1 i) in
+    λ i. setting (g .P·Matroid) (g .R·TieRule) (g .M·Measure) (inv .0 i) (inv .1 i) in
     record {
       matroid = told .matroid ∙ inv .0;
       measure = told .measure ∙ inv .1;

@@ -17,7 +17,7 @@ Inv-loop-appended g l =
     × (name (l .roll .room) ≡ name (l .entry .roll .room))
     × (Based (g .P·Matroid) (l .entry .self) → Based (g .P·Matroid) (l .self))
     × (Based (g .P·Matroid) (l .entry .self)
-        → SoFar (setting-of (g .P·Matroid) (g .R·TieRule) (g .M·Measure) (l .entry .self)) (g .E·Entry .entry) (state-of (l .entry .self)) (l .entry .roll) (l .appended) (state-of (l .self)) (l .roll))
+    → SoFar (setting-of (g .P·Matroid) (g .R·TieRule) (g .M·Measure) (l .entry .self)) (g .E·Entry .entry) (state-of (l .entry .self)) (l .entry .roll) (l .appended) (state-of (l .self)) (l .roll))
 
 abbrev pub μ-loop-appended : given.MeasureT-loop-appended
 μ-loop-appended g l = size (l .entry .roll) - l .roll .used

@@ -20,14 +20,13 @@ pub loop-i-again : need.loop-i-again
 loop-i-again g c =
     let f = g .P·Matroid .independent (c .args .self .now .matroid) in let s = c .args .self .now .present in let a = c .args .self .now .active in
     up-more (λ (d : ℕ). has a d ≡ true → partners f s d ≡ 0) (c .loop-i .i) (c .loop-i .inv) (elim (c .if-contains .came) [
-      then-contains·else-found-ne0 w ↦ λ h. sym (w .candidates-found .ensures) ∙ w .if-found-ne0 .left
-    | else-contains w ↦ λ h. absurd (true≢false (sym h ∙ sym (c .contains .ensures) ∙ w .if-contains .left))
+      | then-contains·else-found-ne0 w ↦ λ h. sym (w .candidates-found .ensures) ∙ w .if-found-ne0 .left
+      | else-contains w ↦ λ h. absurd (true≢false (sym h ∙ sym (c .contains .ensures) ∙ w .if-contains .left))
     ])
 
 pub returns-then-found-ne0 : need.returns-then-found-ne0
 returns-then-found-ne0 g c =
-    let size = c .size-i-end .ensures in
-    (
+    let size = c .size-i-end .ensures in (
       omega arith,
       omega arith,
       sym (c .if-contains .ensures tt),
