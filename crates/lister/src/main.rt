@@ -3,6 +3,12 @@ ghost use Prim.Native.Nat.{_≤_};
 ghost use Rattle.std.specs.Vec.{made};
 ghost use lib.ListN.{length};
 use graphic::GraphicMatroid;
+use lines::Line;
+use lines::LineDisplay;
+use lines::RefusedLine;
+use lines::RefusedLineDisplay;
+use lines::TotalLine;
+use lines::TotalLineDisplay;
 use measure::ShiftsMeasure;
 use roll::Roll;
 use std::error::AnyError;
@@ -39,23 +45,15 @@ fn take_in(rt: &LibcRuntime, buffer: &mut [u8]) -> io::Result<usize>
     Ok(n)
 }
 
-/// Writes a chain: its number, and its labels upwards.
-fn write_chain<W: Write>(out: &mut W, count: u64, set: u64) -> io::Result<()> {
-    write!(out, "{count}")?;
-    for i in 0..64u32 {
-        if (set >> i) & 1 == 1 {
-            let label = i + 1;
-            write!(out, " {label}")?;
-        }
-    }
-    writeln!(out, "")
-}
-
 /// Writes the chains of a roll, numbered from `first` on.
 fn write_roll<W: Write>(out: &mut W, roll: &Roll<u64>, first: u64) -> io::Result<()> {
     for i in 0..roll.len() {
         if let Some(set) = roll.get(i) {
-            write_chain(out, first.saturating_add(i as u64), set)?;
+            let line = Line {
+                count: first.saturating_add(i as u64),
+                set,
+            };
+            writeln!(out, "{line}")?;
         }
     }
     Ok(())
@@ -64,7 +62,11 @@ fn write_roll<W: Write>(out: &mut W, roll: &Roll<u64>, first: u64) -> io::Result
 /// Writes all chains of the walk, and the total once it is finished.
 fn write_all<W: Write>(out: &mut W, walk: &mut SurveyWalk) -> io::Result<()> {
     let start = walk.look();
-    write_chain(out, start.count, start.present)?;
+    let line = Line {
+        count: start.count,
+        set: start.present,
+    };
+    writeln!(out, "{line}")?;
     let mut sets = [0u64; BATCH];
     loop {
         let first = walk.look().count.saturating_add(1);
@@ -77,10 +79,12 @@ fn write_all<W: Write>(out: &mut W, walk: &mut SurveyWalk) -> io::Result<()> {
         }
     }
     let end = walk.look();
-    let count = end.count;
-    let across = end.total.across;
-    let along = end.total.along;
-    writeln!(out, "total {count} {across} {along}")?;
+    let line = TotalLine {
+        count: end.count,
+        across: end.total.across,
+        along: end.total.along,
+    };
+    writeln!(out, "{line}")?;
     out.flush()
 }
 
@@ -101,9 +105,11 @@ fn run(rt: &LibcRuntime) -> Result<(), AnyError> {
             Ok(written?)
         }
         Err(refusal) => {
-            let number = refusal.fault.number();
-            let row = refusal.row;
-            println!(rt, "refused {number} row {row}")?;
+            let line = RefusedLine {
+                number: refusal.fault.number(),
+                row: refusal.row,
+            };
+            println!(rt, "{line}")?;
             Err("the survey is refused".into())
         }
     }

@@ -4,7 +4,8 @@ ghost use mathlib.Core.Path.{_≡_};
 ghost use Prim.Native.Nat.{_≤_, _<_};
 ghost use lib.Dec.{eqb};
 ghost use lib.ListN.{length, getD};
-ghost use Rattle.survey_laws.specs.Check.{isDigit, minus-sign, most-digits, sized, read-on, number-in, plain, negative as minus, shift-in};
+ghost use Rattle.survey_laws.specs.Sheets.{most-digits};
+ghost use Rattle.survey_laws.specs.Check.{isDigit, minus-sign, sized, read-on, number-in, plain, negative as minus, shift-in};
 
 const MOST_DIGITS: usize = 7;
 

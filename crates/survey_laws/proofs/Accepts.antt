@@ -12,16 +12,17 @@ use Rattle.std.specs.declared.result.Result.{Result}
 use Rattle.std.specs.declared.result.Result.the-variants.{Ok, Err}
 use Rattle.std.specs.Written.{decimal}
 use Rattle.std.specs.shelf.Lists.{All}
+use Rattle.std.proofs.shelf.Tests.{true≢false}
 use Rattle.std.proofs.shelf.Ways.{tells}
 use Rattle.std.proofs.shelf.Lists.{append-nil, append-assoc, length-push}
 use Rattle.std.proofs.shelf.Elements.{all-push, all-map, all-weaker}
 use Rattle.std.proofs.shelf.Decimals.{decimal-some}
 use Rattle.labels.specs.Sets.{limit}
 use Rattle.survey_laws.specs.Sheets.{SurveyRow, Sheet, SamePair, Once, LawfulRow, Lawful, most-points, line-feed, row-written, ended}
-use Rattle.survey_laws.specs.Check.{Wrong, out-of-range, accepted, refused, number-in, isPoint, lines, next-row, follow, read-rows, counted, first-line, headed, read-lines, check}
-use Rattle.survey_laws.specs.Laws.{Writes, Accepts-exactly}
+use Rattle.survey_laws.specs.Check.{Wrong, wrong-form, out-of-range, accepted, refused, number-in, isPoint, lines, next-row, follow, read-rows, counted, first-line, headed, read-lines, check}
+use Rattle.survey_laws.specs.Laws.{Writes, Accepts-exactly, WrongCount}
 use Rattle.survey_laws.proofs.Pieces.{Line, Again, ended-lines, lines-ended, lines-unended}
-use Rattle.survey_laws.proofs.Numbers.{number-in-is, number-in-decimal, free-decimal}
+use Rattle.survey_laws.proofs.Numbers.{none-some, number-in-is, number-in-decimal, free-decimal}
 use Rattle.survey_laws.proofs.Rows.{err-ok, Unmet, Fitting, numbered, row-line, next-row-is, next-row-written}
 
 abbrev pub sheet : ℕ → List SurveyRow → Sheet
@@ -114,6 +115,9 @@ fits-whole p done (r ∷ rs) W F =
 
 -- ---- the law
 
+outside : (n : ℕ) → isPoint most-points n ≡ false → 1 ≤ n → n ≤ most-points → ⊥
+outside n h a b = let k : isPoint most-points n ≡ true = grind (arith, tells) in true≢false (sym k ∙ h)
+
 pub first-line-is : (l : List ℕ) (p : ℕ) → first-line l ≡ Ok p → (l ≡ decimal p) × (1 ≤ p) × (p ≤ most-points)
 first-line-is l p e = go (number-in l) refl e
   where
@@ -124,6 +128,20 @@ first-line-is l p e = go (number-in l) refl e
 
     go : (o : Option ℕ) → number-in l ≡ o → counted o ≡ Ok p → (l ≡ decimal p) × (1 ≤ p) × (p ≤ most-points)
     go None i e = absurd (err-ok e)
+    go (Some n) i e = ranged n i (isPoint most-points n) refl e
+
+pub first-line-wrong : (l : List ℕ) (w : Wrong) → first-line l ≡ Err w → WrongCount l w
+first-line-wrong l w e = go (number-in l) refl e
+  where
+    ranged : (n : ℕ) → number-in l ≡ Some n → (x : Bool) → isPoint most-points n ≡ x → cond x (Ok n) (Err out-of-range) ≡ Err w → WrongCount l w
+    ranged n i true h e = absurd (err-ok (sym e))
+    ranged n i false h e =
+        let v : out-of-range ≡ w = cc in
+        let k = number-in-is l n i in
+        subst (WrongCount l) v (n, k .0, k .1, λ r. let a = r .0 in let b = r .1 in absurd (outside n h a b))
+
+    go : (o : Option ℕ) → number-in l ≡ o → counted o ≡ Err w → WrongCount l w
+    go None i e = let v : wrong-form ≡ w = cc in subst (WrongCount l) v (λ p h q. none-some (sym i ∙ ap number-in q ∙ number-in-decimal p h))
     go (Some n) i e = ranged n i (isPoint most-points n) refl e
 
 first-line-written : (p : ℕ) → 1 ≤ p → p ≤ most-points → first-line (decimal p) ≡ Ok p

@@ -7,10 +7,9 @@ use Rattle.std.specs.shelf.Lists.{All}
 use Rattle.std.proofs.shelf.Lists.{length-map}
 use Rattle.std.proofs.shelf.Elements.{all-map, all-weaker}
 use Rattle.std.proofs.shelf.Decimals.{length-decimal-le}
-use Rattle.survey_laws.specs.Sheets.{SurveyRow, Sheet, LawfulRow, Lawful, most-points, row-written, ended, written}
+use Rattle.survey_laws.specs.Sheets.{SurveyRow, Sheet, Numbered, LawfulRow, Lawful, most-points, row-written, ended, written}
 use Rattle.survey_laws.specs.Laws.{most-bytes}
 use Rattle.survey_laws.proofs.Numbers.{length-shift}
-use Rattle.survey_laws.proofs.Rows.{Numbered}
 
 -- a row of the right form
 pub length-numbered : (r : SurveyRow) → Numbered r → length (row-written r) ≤ 33
@@ -24,10 +23,10 @@ length-numbered r N =
 -- a lawful row
 pub length-row : (p : ℕ) (r : SurveyRow) → p ≤ most-points → LawfulRow p r → length (row-written r) ≤ 23
 length-row p r h L =
-    let x = length-shift (r .across) (omega (arith, L .across-reaches)) in
-    let y = length-shift (r .along) (omega (arith, L .along-reaches)) in
-    let a = length-decimal-le 2 (r .a) (omega arith) (omega (arith, L .a-is-point .1)) (omega (arith, L .a-is-point .1)) in
-    let b = length-decimal-le 2 (r .b) (omega arith) (omega (arith, L .b-is-point .1)) (omega (arith, L .b-is-point .1)) in
+    let x = length-shift (r .across) (omega (arith, L .ranges .across-reaches)) in
+    let y = length-shift (r .along) (omega (arith, L .ranges .along-reaches)) in
+    let a = length-decimal-le 2 (r .a) (omega arith) (omega (arith, L .ranges .a-is-point .1)) (omega (arith, L .ranges .a-is-point .1)) in
+    let b = length-decimal-le 2 (r .b) (omega arith) (omega (arith, L .ranges .b-is-point .1)) (omega (arith, L .ranges .b-is-point .1)) in
     simp length-append (omega arith)
 
 length-ended : (ls : List (List ℕ)) → All (λ l. length l ≤ 23) ls → length (ended ls) ≤ 24 * length ls

@@ -13,8 +13,8 @@ use Rattle.std.proofs.shelf.Lists.{append-nil, append-assoc}
 use Rattle.survey_laws.specs.Sheets.{SurveyRow, Lawful, row-written, ended}
 use Rattle.survey_laws.specs.Check.{Wrong, wrong-form, refused, lines, next-row, follow, read-rows, first-line, headed, read-lines, check}
 use Rattle.survey_laws.specs.Laws.{FirstLineWrong, LaterLineWrong}
-use Rattle.survey_laws.proofs.Rows.{next-row-is}
-use Rattle.survey_laws.proofs.Accepts.{sheet, Fit, refused-accepted, fits-whole, first-line-is, accepts-written}
+use Rattle.survey_laws.proofs.Rows.{next-row-is, next-row-wrong}
+use Rattle.survey_laws.proofs.Accepts.{sheet, Fit, refused-accepted, fits-whole, first-line-is, first-line-wrong, accepts-written}
 
 -- the rows above the one that is wrong, after the rows `done`
 record Above (p : ℕ) (done : List SurveyRow) (ls : List (List ℕ)) (w : Wrong) (n : ℕ) : Type 0 where
@@ -71,13 +71,13 @@ refuses-first text w n e = go (lines text) refl e
           accepts-above = accepts-written (ended (take (length (A .rows) + 1) (lines text))) (sheet p (A .rows)) L (inl (ap ended front));
           place = A .place;
           stands = rw q (let h = A .stands in omega arith);
-          here = rw (q, add-one) (A .here);
+          here = rw (q, add-one) (next-row-wrong p (A .rows) (getD ls (length (A .rows)) []) w (A .here));
         }
 
     first : (l : List ℕ) (ls : List (List ℕ)) → lines text ≡ l ∷ ls → (x : Result ℕ Wrong) → first-line l ≡ x → headed x ls ≡ refused w n
         → ((n ≡ 1) × FirstLineWrong (lines text) w) ⊎ LaterLineWrong text w n
     first l ls q (Ok p) f e = inr (later p l ls q f (read-rows-refused p [] ls w n e))
-    first l ls q (Err v) f e = let k : v ≡ w = cc in let m : 1 ≡ n = cc in inl (sym m, rw q (f ∙ ap Err k))
+    first l ls q (Err v) f e = let k : v ≡ w = cc in let m : 1 ≡ n = cc in inl (sym m, rw q (first-line-wrong l w (f ∙ ap Err k)))
 
     go : (ls : List (List ℕ)) → lines text ≡ ls → read-lines ls ≡ refused w n → ((n ≡ 1) × FirstLineWrong (lines text) w) ⊎ LaterLineWrong text w n
     go [] q e = let k : wrong-form ≡ w = cc in let m : 1 ≡ n = cc in inl (sym m, rw q k)

@@ -3,10 +3,10 @@ use mathlib.Core.Path.{_≡_, refl, sym, ap, _∙_, subst}
 use mathlib.Core.Logic.{inl, inr}
 use mathlib.Core.Bool.{Bool, true, false, cond}
 use mathlib.Core.List.{List, [], _∷_, _++_}
-use Prim.Native.Nat.{ℕ, _+_, _^_, _≤_, _<_}
+use Prim.Native.Nat.{ℕ, _+_, _≤_, _<_}
 use native.Mathlib.Omega.{arith}
 use lib.Dec.{eqb, leb}
-use lib.IntN.{ℤ, natAbs}
+use lib.IntN.{ℤ}
 use lib.ListN.{length, length-take, length-append}
 use Rattle.std.specs.declared.option.Option.{Option}
 use Rattle.std.specs.declared.option.Option.the-variants.{None, Some}
@@ -14,11 +14,12 @@ use Rattle.std.specs.declared.result.Result.the-variants.{Ok, Err}
 use Rattle.std.specs.Written.{decimal, signed}
 use Rattle.std.specs.shelf.Lists.{All}
 use Rattle.std.proofs.shelf.Ways.{tells}
-use Rattle.std.proofs.shelf.Tests.{lt-leb, leb-false, eqb-false, ne-eqb, true≢false}
+use Rattle.std.proofs.shelf.Tests.{lt-leb, leb-true, leb-false, eqb-true, eqb-false, ne-eqb, true≢false}
 use Rattle.std.proofs.shelf.Elements.{all-append}
 use Rattle.labels.specs.Sets.{limit}
-use Rattle.survey_laws.specs.Sheets.{SurveyRow, SamePair, LawfulRow, most-points, comma, line-feed, row-written}
-use Rattle.survey_laws.specs.Check.{same-point, out-of-range, repeated-pair, too-many-rows, number-in, shift-in, until, before, after, row-from, row-in, in-range, same-pair, met, judged, formed, next-row}
+use Rattle.survey_laws.specs.Sheets.{SurveyRow, Numbered, InRange, SamePair, Met, LawfulRow, most-points, comma, line-feed, row-written}
+use Rattle.survey_laws.specs.Check.{Wrong, wrong-form, same-point, out-of-range, repeated-pair, too-many-rows, number-in, shift-in, until, before, after, row-from, row-in, in-range, same-pair, met, judged, formed, next-row}
+use Rattle.survey_laws.specs.Laws.{WrongRow}
 use Rattle.survey_laws.proofs.Pieces.{Line, before-front, after-front, cut-whole}
 use Rattle.survey_laws.proofs.Numbers.{none-some, number-in-is, number-in-decimal, number-some, shift-in-is, shift-in-signed, shift-some, free-decimal, free-signed}
 
@@ -30,13 +31,6 @@ some-before b s h = omega (arith, length-take (until b s) s)
 assembled : {s s₁ s₂ s₃ f₁ f₂ f₃ l₁ l₂ l₃ l₄ : List ℕ} → s ≡ f₁ ++ comma ∷ s₁ → s₁ ≡ f₂ ++ comma ∷ s₂ → s₂ ≡ f₃ ++ comma ∷ s₃
     → f₁ ≡ l₁ → f₂ ≡ l₂ → f₃ ≡ l₃ → s₃ ≡ l₄ → s ≡ l₁ ++ comma ∷ (l₂ ++ comma ∷ (l₃ ++ comma ∷ l₄))
 assembled k₁ k₂ k₃ n₁ n₂ n₃ n₄ = cc
-
--- the numbers of the row have at most seven digits
-pub record Numbered (r : SurveyRow) : Type 0 where
-  pub a-short : r .a < 10 ^ 7
-  pub b-short : r .b < 10 ^ 7
-  pub across-short : natAbs (r .across) < 10 ^ 7
-  pub along-short : natAbs (r .along) < 10 ^ 7
 
 pub row-in-is : (s : List ℕ) (r : SurveyRow) → row-in s ≡ Some r → (s ≡ row-written r) × Numbered r
 unfolding row-in
@@ -75,7 +69,7 @@ row-in-parts : (s : List ℕ) (r : SurveyRow) → number-in (before comma s) ≡
 unfolding row-in
 row-in-parts s r e₁ e₂ e₃ e₄ = rw (e₁, e₂, e₃, e₄)
 
-pub row-in-written : (r : SurveyRow) → Numbered r → row-in (row-written r) ≡ Some r
+row-in-written : (r : SurveyRow) → Numbered r → row-in (row-written r) ≡ Some r
 row-in-written r N =
     let t₃ = signed (r .along) in
     let t₂ = signed (r .across) ++ comma ∷ t₃ in
@@ -139,16 +133,15 @@ met-passes (q ∷ qs) r h = go (same-pair q r) refl (met-passes qs r (h .1))
     go false p ih = ih
 
 -- the ranges of a row
-in-range-tells : (p : ℕ) (r : SurveyRow) → in-range p r ≡ true → (r .a ≡ r .b → ⊥) → LawfulRow p r
-in-range-tells p r e n = record {
+in-range-tells : (p : ℕ) (r : SurveyRow) → in-range p r ≡ true → InRange p r
+in-range-tells p r e = record {
   a-is-point = (grind (arith, tells), grind (arith, tells));
   b-is-point = (grind (arith, tells), grind (arith, tells));
   across-reaches = grind (arith, tells);
   along-reaches = grind (arith, tells);
-  apart = n;
 }
 
-in-range-passes : (p : ℕ) (r : SurveyRow) → LawfulRow p r → in-range p r ≡ true
+in-range-passes : (p : ℕ) (r : SurveyRow) → InRange p r → in-range p r ≡ true
 in-range-passes p r L =
     let a₀ = L .a-is-point .0 in
     let a₁ = L .a-is-point .1 in
@@ -159,12 +152,14 @@ in-range-passes p r L =
     grind (arith, tells)
 
 pub numbered : (p : ℕ) (r : SurveyRow) → p ≤ most-points → LawfulRow p r → Numbered r
-numbered p r h L = record {
-  a-short = let k = L .a-is-point .1 in omega arith;
-  b-short = let k = L .b-is-point .1 in omega arith;
-  across-short = let k = L .across-reaches in omega arith;
-  along-short = let k = L .along-reaches in omega arith;
-}
+numbered p r h L =
+    let R = L .ranges in
+    record {
+      a-short = omega (arith, R .a-is-point .1);
+      b-short = omega (arith, R .b-is-point .1);
+      across-short = omega (arith, R .across-reaches);
+      along-short = omega (arith, R .along-reaches);
+    }
 
 -- a row that can come after the rows `done`
 pub record Fitting (p : ℕ) (done : List SurveyRow) (r : SurveyRow) : Type 0 where
@@ -183,7 +178,7 @@ judged-is p done r q e = go (in-range p r) refl (eqb (r .a) (r .b)) refl (met do
         → cond x (cond y (Err same-point) (cond z (Err repeated-pair) (Ok r))) (Err out-of-range) ≡ Ok q → (r ≡ q) × LawfulRow p r × Unmet done r
     go true h true i z j e = absurd (err-ok e)
     go true h false i true j e = absurd (err-ok e)
-    go true h false i false j e = (cc, in-range-tells p r h (eqb-false (r .a) (r .b) i), met-tells done r j)
+    go true h false i false j e = (cc, record { ranges = in-range-tells p r h; apart = eqb-false (r .a) (r .b) i }, met-tells done r j)
     go false h y i z j e = absurd (err-ok e)
 
 pub next-row-is : (p : ℕ) (done : List SurveyRow) (l : List ℕ) (r : SurveyRow) → next-row p done l ≡ Ok r → (l ≡ row-written r) × Fitting p done r
@@ -206,7 +201,47 @@ next-row-written p done r h F =
     rw (
       lt-leb limit (length done) (F .room),
       row-in-written r (numbered p r h (F .lawful)),
-      in-range-passes p r (F .lawful),
+      in-range-passes p r (F .lawful .ranges),
       ne-eqb (r .a) (r .b) (F .lawful .apart),
       met-passes done r (F .unmet),
     )
+
+-- ---- what is wrong with a line
+
+ok-err : {X Y : Type 0} {x : X} {y : Y} → Ok x ≡ Err y → ⊥
+ok-err e = err-ok (sym e)
+
+met-has : (qs : List SurveyRow) (r : SurveyRow) → met qs r ≡ true → Met qs r
+met-has [] r e = absurd (true≢false (sym e))
+met-has (q ∷ qs) r e = go (same-pair q r) refl e (met-has qs r)
+  where
+    go : (x : Bool) → same-pair q r ≡ x → cond x true (met qs r) ≡ true → (met qs r ≡ true → Met qs r) → Met (q ∷ qs) r
+    go true p e ih = inl (same-pair-tells q r p)
+    go false p e ih = inr (ih e)
+
+pub next-row-wrong : (p : ℕ) (done : List SurveyRow) (l : List ℕ) (w : Wrong) → next-row p done l ≡ Err w → WrongRow p done l w
+unfolding next-row judged
+next-row-wrong p done l w e = go (leb limit (length done)) refl (row-in l) refl e
+  where
+    after-form : (r : SurveyRow) → length done < limit → row-in l ≡ Some r → (x : Bool) → in-range p r ≡ x → (y : Bool) → eqb (r .a) (r .b) ≡ y → (z : Bool) → met done r ≡ z
+        → cond x (cond y (Err same-point) (cond z (Err repeated-pair) (Ok r))) (Err out-of-range) ≡ Err w → WrongRow p done l w
+    after-form r m i false h y j z k e =
+        let v : out-of-range ≡ w = cc in
+        let f = row-in-is l r i in
+        subst (WrongRow p done l) v (m, (r, f .0, f .1, λ R. true≢false (sym (in-range-passes p r R) ∙ h)))
+    after-form r m i true h true j z k e =
+        let v : same-point ≡ w = cc in
+        let f = row-in-is l r i in
+        subst (WrongRow p done l) v (m, (r, f .0, f .1, (in-range-tells p r h, eqb-true (r .a) (r .b) j)))
+    after-form r m i true h false j true k e =
+        let v : repeated-pair ≡ w = cc in
+        let f = row-in-is l r i in
+        subst (WrongRow p done l) v (m, (r, f .0, f .1, (record { ranges = in-range-tells p r h; apart = eqb-false (r .a) (r .b) j }, met-has done r k)))
+    after-form r m i true h false j false k e = absurd (ok-err e)
+
+    go : (x : Bool) → leb limit (length done) ≡ x → (o : Option SurveyRow) → row-in l ≡ o → cond x (Err too-many-rows) (formed o (judged p done)) ≡ Err w → WrongRow p done l w
+    go true h o i e = let v : too-many-rows ≡ w = cc in subst (WrongRow p done l) v (leb-true limit (length done) h)
+    go false h None i e =
+        let v : wrong-form ≡ w = cc in
+        subst (WrongRow p done l) v (leb-false limit (length done) h, λ r N q. none-some (sym i ∙ ap row-in q ∙ row-in-written r N))
+    go false h (Some r) i e = after-form r (leb-false limit (length done) h) i (in-range p r) refl (eqb (r .a) (r .b)) refl (met done r) refl e

@@ -11,7 +11,7 @@ use Rattle.std.specs.declared.result.Result.{Result}
 use Rattle.std.specs.declared.result.Result.the-variants.{Ok, Err}
 use Rattle.std.specs.shelf.Lists.{leading}
 use Rattle.labels.specs.Sets.{limit}
-use Rattle.survey_laws.specs.Sheets.{SurveyRow, Sheet, most-points, furthest, comma, line-feed}
+use Rattle.survey_laws.specs.Sheets.{SurveyRow, Sheet, most-points, furthest, most-digits, comma, line-feed}
 
 -- what can be wrong
 pub data Wrong : Type 0 where
@@ -35,10 +35,6 @@ pub data Outcome : Type 0 where
   refused : Wrong → ℕ → Outcome
 
 -- ---- numbers
-
--- how many digits a number can have
-abbrev pub most-digits : ℕ
-most-digits = 7
 
 -- what stands before a number below zero
 abbrev pub minus-sign : ℕ

@@ -3,7 +3,7 @@
 use mathlib.Core.Path.{_≡_}
 use mathlib.Core.Logic.{_⊎_}
 use mathlib.Core.List.{List, [], _∷_, _++_, map}
-use Prim.Native.Nat.{ℕ, _≤_}
+use Prim.Native.Nat.{ℕ, _^_, _≤_, _<_}
 use lib.IntN.{ℤ, natAbs}
 use lib.ListN.{length}
 use Rattle.std.specs.Written.{decimal, signed}
@@ -30,11 +30,34 @@ most-points = 32
 abbrev pub furthest : ℕ
 furthest = 1000000
 
+-- how many digits a number can have
+abbrev pub most-digits : ℕ
+most-digits = 7
+
 -- ---- what is lawful
+
+-- the numbers of a row are short enough to be written
+pub record Numbered (r : SurveyRow) : Type 0 where
+  pub a-short : r .a < 10 ^ most-digits
+  pub b-short : r .b < 10 ^ most-digits
+  pub across-short : natAbs (r .across) < 10 ^ most-digits
+  pub along-short : natAbs (r .along) < 10 ^ most-digits
+
+-- the numbers of a row are in range, in a survey of p points
+pub record InRange (p : ℕ) (r : SurveyRow) : Type 0 where
+  pub a-is-point : (1 ≤ r .a) × (r .a ≤ p)
+  pub b-is-point : (1 ≤ r .b) × (r .b ≤ p)
+  pub across-reaches : natAbs (r .across) ≤ furthest
+  pub along-reaches : natAbs (r .along) ≤ furthest
 
 -- the same two points, either way round
 abbrev pub SamePair : SurveyRow → SurveyRow → Type 0
 SamePair q r = ((q .a ≡ r .a) × (q .b ≡ r .b)) ⊎ ((q .a ≡ r .b) × (q .b ≡ r .a))
+
+-- some row of the list has the pair of r
+abbrev pub Met : List SurveyRow → SurveyRow → Type 0
+Met [] r = ⊥
+Met (q ∷ qs) r = SamePair q r ⊎ Met qs r
 
 -- no pair of points stands again in a later row
 abbrev pub Once : List SurveyRow → Type 0
@@ -43,10 +66,7 @@ Once (q ∷ rs) = All (λ r. SamePair q r → ⊥) rs × Once rs
 
 -- a row that can stand in a survey of p points
 pub record LawfulRow (p : ℕ) (r : SurveyRow) : Type 0 where
-  pub a-is-point : (1 ≤ r .a) × (r .a ≤ p)
-  pub b-is-point : (1 ≤ r .b) × (r .b ≤ p)
-  pub across-reaches : natAbs (r .across) ≤ furthest
-  pub along-reaches : natAbs (r .along) ≤ furthest
+  pub ranges : InRange p r
   pub apart : r .a ≡ r .b → ⊥
 
 -- a survey that can be read

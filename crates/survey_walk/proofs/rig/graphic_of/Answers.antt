@@ -27,7 +27,7 @@ returns-in-Break-add c =
     let small : length (graph (c .loop-i .graphic)) < limit = omega (arith, ap length (inv .1), few, c .loop-i-test .taken, c .len-i-end .ensures .few) in
     rw (p .1) (λ L. let row = all-nth (LawfulRow (c .args .survey .now .points)) rows i (row-of (c .in-Some .row)) (c .in-Some .ensures tt) (L .each-row) in
     never-refused (c .args .survey .now .points) (c .loop-i .graphic .points) (length (graph (c .loop-i .graphic))) (c .in-Some .row .a) (c .in-Some .row .b) (c .in-Break-add .field-0 .0)
-    (inv .0) (c .in-Break-add .ensures tt .answer) (row .a-is-point) (row .b-is-point) small)
+    (inv .0) (c .in-Break-add .ensures tt .answer) (row .ranges .a-is-point) (row .ranges .b-is-point) small)
 
 pub loop-i-again : need.loop-i-again
 loop-i-again c =
