@@ -2,6 +2,9 @@
 ghost use Rattle.entry.specs.Numbers.{entry-number};
 ghost use mathlib.Core.Path.{_≡_};
 
+/// The most points that a graph can have; `most-points` in clauses.
+pub const MOST_POINTS: u8 = 32;
+
 /// Why an entry was refused.
 #[derive(Clone, Copy, Debug, PartialEq, Eq)]
 pub enum EntryRefusal {

@@ -2,10 +2,7 @@
 use mathlib.Core.Bool.{Bool, _&&_}
 use Prim.Native.Nat.{ℕ}
 use lib.Dec.{leb}
-
--- the most points that a graph can have
-abbrev pub most-points : ℕ
-most-points = 32
+pub use Rattle.entry.specs.Limits.{most-points}
 
 -- x is one of 1..n
 abbrev pub inRange : ℕ → ℕ → Bool

@@ -1,6 +1,7 @@
 use crate::edge::Edge;
 use crate::graph::Graphic;
 use entry::EntryRefusal;
+use entry::MOST_POINTS;
 ghost use Rattle.entry.specs.declared.EntryRefusal.the-variants.{OutOfRange};
 ghost use Rattle.graphic.specs.Edges.{Extended, graph};
 ghost use Rattle.graphic.specs.Graphs.{admitted, ends-at};
@@ -10,9 +11,6 @@ ghost use lib.ListN.{length};
 ghost use mathlib.Core.Bool.{false, true};
 ghost use mathlib.Core.List.{[]};
 ghost use mathlib.Core.Path.{_≡_};
-
-/// The most points that a graph can have.
-pub const MOST_POINTS: u8 = 32;
 
 /// Whether `x` is one of 1 to `last`.
 fn in_range(last: u8, x: u8) -> bool

@@ -4,7 +4,6 @@ mod entries;
 mod graph;
 mod independence;
 
-pub use entries::MOST_POINTS;
 pub use graph::Graphic;
 pub use independence::GraphicMatrix;
 pub use independence::GraphicMatroid;
@@ -14,6 +13,7 @@ mod tests {
     use super::*;
     use entry::EntryRefusal;
     use entry::EntryRefusalDebug;
+    use entry::MOST_POINTS;
     use matroid::Matroid;
     use std::test::*;
 

@@ -13,8 +13,7 @@ use crate::numerals::number;
 use crate::table::Survey;
 use crate::values::Fault;
 use crate::values::Row;
-
-const MOST_POINTS: u8 = 32;
+use entry::MOST_POINTS;
 
 const FURTHEST: i64 = 1000000;
 

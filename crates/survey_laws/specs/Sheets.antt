@@ -9,6 +9,7 @@ use lib.ListN.{length}
 use Rattle.std.specs.Written.{decimal, signed}
 use Rattle.std.specs.shelf.Lists.{All, joined}
 use Rattle.labels.specs.Sets.{limit}
+pub use Rattle.entry.specs.Limits.{most-points}
 
 -- two points, and the shift from one to the other in arc seconds
 pub record SurveyRow : Type 0 where
@@ -21,10 +22,6 @@ pub record SurveyRow : Type 0 where
 pub record Sheet : Type 0 where
   pub points : ℕ
   pub rows : List SurveyRow
-
--- how many points a survey can have
-abbrev pub most-points : ℕ
-most-points = 32
 
 -- how far a shift can reach, either way
 abbrev pub furthest : ℕ

@@ -4,5 +4,3 @@ mod rig;
 
 pub use opening::SurveyWalk;
 pub use opening::walk_of;
-pub use rig::graphic_of;
-pub use rig::shifts_of;

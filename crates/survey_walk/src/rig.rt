@@ -11,7 +11,7 @@ use measure::Shifts;
 use survey::Survey;
 
 /// The graph of a survey: each row is an edge. No lawful survey is refused.
-pub fn graphic_of(survey: &Survey) -> Result<Graphic, EntryRefusal>
+pub(crate) fn graphic_of(survey: &Survey) -> Result<Graphic, EntryRefusal>
     ensures { λ r. ⌜ Cases r
         (λ g. (g .points ≡ sheet-of (now (survey .entry)) .points) × (graph g ≡ edges-of (sheet-of (now (survey .entry)))))
         (λ _. Lawful (sheet-of (now (survey .entry))) → ⊥) ⌝ }
@@ -27,7 +27,7 @@ pub fn graphic_of(survey: &Survey) -> Result<Graphic, EntryRefusal>
 }
 
 /// The shifts of a survey's edges. No survey is refused.
-pub fn shifts_of(survey: &Survey) -> Result<Shifts, EntryRefusal>
+pub(crate) fn shifts_of(survey: &Survey) -> Result<Shifts, EntryRefusal>
     ensures { λ r. ⌜ Cases r (λ m. entries-of m ≡ shifts-for (sheet-of (now (survey .entry)))) (λ _. ⊥) ⌝ }
 {
     let mut shifts = Shifts::new();
