@@ -1,12 +1,11 @@
 -- Two sets with the same members are equal; how many members a set has.
-use mathlib.Core.Path.{_≡_, refl, sym, ap, ap₂, _∙_, subst}
+use mathlib.Core.Path.{_≡_, refl, sym, ap, _∙_}
 use mathlib.Core.Logic.{_⊎_, inl, inr}
-use mathlib.Core.Bool.{Bool, true, false, not, _&&_, _||_}
-use Prim.Native.Nat.{ℕ, zero, suc, _+_, _-_, _*_, _/_, _%_, _^_, _≤_, _<_}
+use mathlib.Core.Bool.{true, false}
+use Prim.Native.Nat.{ℕ, zero, suc, _+_, _-_, _/_, _%_, _^_, _≤_, _<_}
 use native.Mathlib.Omega.{arith}
-use lib.Dec.{eqb, ltb, leb}
 use lib.Arith.{bin-ind}
-use lib.Bits.{bitAnd, bitOr, bitXor, and-shr, or-shr, or-add-and}
+use lib.Bits.{bitAnd, bitOr, and-shr, or-shr, or-add-and}
 use lib.Count.{ones, ones-step}
 use Rattle.labels.specs.Sets.{bit, has, single, difference, insert, remove, Subset, card}
 use Rattle.labels.proofs.Member.{bit-low, bit-up, bit-zero, has-above, has-pos, members}

@@ -1,15 +1,12 @@
 -- A label that passes a test, or that none does; induction on sets.
-use mathlib.Core.Path.{_≡_, refl, sym, ap, ap₂, _∙_, subst}
+use mathlib.Core.Path.{_≡_, refl, sym, ap, _∙_, subst}
 use mathlib.Core.Logic.{_⊎_, inl, inr}
-use mathlib.Core.Bool.{Bool, true, false, not, _&&_, _||_, cond}
-use Prim.Native.Nat.{ℕ, zero, suc, _+_, _-_, _*_, _/_, _%_, _^_, _≤_, _<_}
+use mathlib.Core.Bool.{Bool, true, false}
+use Prim.Native.Nat.{ℕ, zero, suc, _≤_, _<_}
 use native.Mathlib.Omega.{arith}
 use native.Mathlib.Decide.{ℕ-discrete}
-use lib.Dec.{eqb, ltb, leb}
-use Rattle.std.proofs.shelf.Ways.{tells}
 use Rattle.std.proofs.shelf.Tests.{cases-bool}
-use Rattle.labels.specs.Sets.{has, card, single, difference, insert, remove, no-label}
-use Rattle.labels.proofs.Member.{has-difference, has-single, has-pos}
+use Rattle.labels.specs.Sets.{has, card, remove, no-label}
 use Rattle.labels.proofs.Card.{card-none, card-remove, some, card-zero}
 use Rattle.labels.proofs.Order.{highest}
 

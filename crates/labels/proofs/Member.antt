@@ -1,12 +1,11 @@
 -- The members of the words that code makes.
-use mathlib.Core.Path.{_≡_, refl, sym, ap, ap₂, _∙_, subst}
+use mathlib.Core.Path.{_≡_, refl, sym, _∙_}
 use mathlib.Core.Logic.{_⊎_, inl, inr}
-use mathlib.Core.Bool.{Bool, true, false, not, _&&_, _||_, Bool·beq, and-true}
-use Prim.Native.Nat.{ℕ, zero, suc, _+_, _-_, _*_, _/_, _%_, _^_, _≤_, _<_, min, max}
-use native.Mathlib.Nat.{mod-lt, sub-zero}
-use native.Mathlib.Numerals.{sub-one}
+use mathlib.Core.Bool.{Bool, true, false, not, _&&_, _||_, and-true}
+use Prim.Native.Nat.{ℕ, zero, suc, _-_, _/_, _%_, _^_, _≤_, _<_}
+use native.Mathlib.Nat.{sub-zero}
 use native.Mathlib.Omega.{arith}
-use lib.Dec.{eqb, ltb, leb, leb·zero, leb·suc-zero, leb·suc-suc}
+use lib.Dec.{eqb, ltb, leb, leb·suc-zero, leb·suc-suc}
 use lib.Bits.{bitAnd, bitOr, bitXor, and-mod, or-mod, xor-mod, and-shr, or-shr, xor-shr}
 use lib.Pow.{pow-pos}
 use Rattle.std.proofs.shelf.Ways.{tells}

@@ -1,18 +1,16 @@
 -- The highest label of the difference of two sets, and the order of the numbers.
-use mathlib.Core.Path.{_≡_, refl, sym, ap, ap₂, _∙_, subst}
-use mathlib.Core.Logic.{_⊎_, inl, inr}
-use mathlib.Core.Bool.{Bool, true, false, not, _&&_, _||_, cond}
-use Prim.Native.Nat.{ℕ, zero, suc, _+_, _-_, _*_, _/_, _%_, _^_, _≤_, _<_}
+use mathlib.Core.Path.{_≡_, refl, sym, ap, _∙_}
+use mathlib.Core.Bool.{true, false, _&&_, _||_}
+use Prim.Native.Nat.{ℕ, zero, suc, _+_, _/_, _≤_, _<_}
 use native.Mathlib.Omega.{arith}
 use native.Mathlib.Decide.{ℕ-discrete}
-use lib.Dec.{eqb, ltb, leb}
+use lib.Dec.{ltb, leb}
 use lib.Arith.{bin-ind}
-use lib.Pow.{pow-pos}
-use lib.Bits.{bitAnd, bitOr, bitXor}
+use lib.Bits.{bitXor}
 use Rattle.std.proofs.shelf.Ways.{tells}
-use Rattle.labels.specs.Sets.{bit, has, differs, single, difference, insert, remove, Subset, TopDifference, swap, reopened}
+use Rattle.labels.specs.Sets.{bit, has, TopDifference, swap, reopened}
 use Rattle.labels.proofs.Member.{bit-low, bit-up, bit-above, has-pos, has-zero, members}
-use Rattle.labels.proofs.Card.{ext, bit-ext, some}
+use Rattle.labels.proofs.Card.{ext, bit-ext}
 
 -- the highest place of a number
 bit-top : (s : ℕ) → 0 < s → (k : ℕ) × (bit s k ≡ true) × ((j : ℕ) → k < j → bit s j ≡ false)

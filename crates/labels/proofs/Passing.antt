@@ -1,14 +1,14 @@
 -- The labels that pass a test, the lowest that does, and the highest of a set below a label.
-use mathlib.Core.Path.{_≡_, refl, sym, ap, _∙_, subst}
+use mathlib.Core.Path.{_≡_, refl, sym, ap, _∙_}
 use mathlib.Core.Logic.{_⊎_, inl, inr}
-use mathlib.Core.Bool.{Bool, true, false, not, _&&_, _||_, cond}
-use Prim.Native.Nat.{ℕ, zero, suc, _+_, _-_, _^_, _≤_, _<_}
+use mathlib.Core.Bool.{Bool, true, false, _&&_, cond}
+use Prim.Native.Nat.{ℕ, zero, suc, _≤_, _<_}
 use native.Mathlib.Omega.{arith}
 use native.Mathlib.Decide.{ℕ-discrete}
-use lib.Dec.{eqb, ltb, leb}
+use lib.Dec.{leb}
 use Rattle.std.proofs.shelf.Ways.{tells}
 use Rattle.labels.specs.Sets.{has, insert, passing, first-passing, or-else, highest-below}
-use Rattle.labels.proofs.Member.{has-none, has-pos, has-insert}
+use Rattle.labels.proofs.Member.{has-none, has-insert}
 use Rattle.labels.proofs.Card.{ext}
 
 pub has-passing : (t : ℕ → Bool) (m f : ℕ) → has (passing t m) f ≡ ((leb 1 f && leb f m) && t f)

@@ -1,13 +1,11 @@
 -- Two labels change places: the members, the size, and what becomes of the highest label of difference.
-use mathlib.Core.Path.{_≡_, refl, sym, ap, _∙_, subst}
-use mathlib.Core.Logic.{_⊎_, inl, inr, _≢_}
-use mathlib.Core.Bool.{Bool, true, false, not, _&&_, _||_}
-use Prim.Native.Nat.{ℕ, zero, suc, _+_, _-_, _*_, _/_, _%_, _^_, _≤_, _<_}
+use mathlib.Core.Path.{_≡_, sym, ap, _∙_}
+use mathlib.Core.Bool.{true, false}
+use Prim.Native.Nat.{ℕ, _+_, _≤_, _<_}
 use native.Mathlib.Omega.{arith}
-use lib.Dec.{eqb}
-use lib.Bits.{bitAnd, bitOr, bitXor, or-disjoint}
+use lib.Bits.{bitAnd, bitXor, or-disjoint}
 use Rattle.std.proofs.shelf.Ways.{tells}
-use Rattle.labels.specs.Sets.{has, differs, single, difference, insert, remove, swap, TopDifference, card, Subset, isSubset}
+use Rattle.labels.specs.Sets.{has, single, insert, remove, swap, TopDifference, card, Subset, isSubset}
 use Rattle.labels.proofs.Member.{members}
 use Rattle.labels.proofs.Card.{ext, card-insert, card-remove}
 use Rattle.labels.proofs.Order.{top-less, top-swap, top-sym}

@@ -1,7 +1,7 @@
 -- The forms of the code's words, at w bits, as the sets that they are.
-use mathlib.Core.Path.{_≡_, refl, sym, ap, _∙_, subst}
+use mathlib.Core.Path.{_≡_, refl, sym, ap, _∙_}
 use mathlib.Core.Logic.{_⊎_, inl, inr}
-use mathlib.Core.Bool.{Bool, true, false, not, _&&_, _||_}
+use mathlib.Core.Bool.{true, false, not, _&&_}
 use Prim.Native.Nat.{ℕ, zero, suc, _+_, _-_, _*_, _/_, _%_, _^_, _≤_, _<_}
 use native.Mathlib.Omega.{arith}
 use native.Mathlib.Numerals.{one-add}
@@ -12,7 +12,7 @@ use lib.Count.{leadingZeros, trailingZeros, under, leading-top}
 use Rattle.std.proofs.shelf.Ways.{tells}
 use Rattle.std.proofs.shelf.Tests.{cases-bool}
 use Rattle.std.proofs.shelf.Bits.{one-shl, shr-shr, pow-below}
-use Rattle.labels.specs.Sets.{bit, has, single, difference, reopened}
+use Rattle.labels.specs.Sets.{bit, has, single, difference}
 use Rattle.labels.proofs.Member.{bit-up, bit-low, bit-above, bit-and-not, has-difference, members}
 use Rattle.labels.proofs.Card.{ext}
 

@@ -1,15 +1,14 @@
 -- The bases of a matroid: one size, and the two exchanges.
-use mathlib.Core.Path.{_≡_, refl, sym, ap, _∙_, subst}
+use mathlib.Core.Path.{_≡_, sym, ap, _∙_}
 use mathlib.Core.Logic.{_⊎_, inl, inr}
-use mathlib.Core.Bool.{Bool, true, false, not, _&&_, _||_}
-use Prim.Native.Nat.{ℕ, zero, suc, _+_, _-_, _^_, _≤_, _<_}
+use mathlib.Core.Bool.{Bool, true, false}
+use Prim.Native.Nat.{ℕ, zero, suc, _+_, _-_, _≤_, _<_}
 use native.Mathlib.Omega.{arith}
-use lib.Dec.{eqb}
 use lib.Bits.{bitAnd, bitOr}
 use Rattle.std.proofs.shelf.Tests.{cases-lt, cases-bool}
 use Rattle.labels.specs.Sets.{has, insert, remove, Subset, card}
 use Rattle.labels.proofs.Member.{has-pos, members}
-use Rattle.labels.proofs.Card.{within-back, card-insert, card-remove, card-subset, subset-eq, more}
+use Rattle.labels.proofs.Card.{within-back, card-insert, card-remove, subset-eq, more}
 use Rattle.matroid_laws.specs.Matroids.{IsMatroid, Base}
 
 -- What is of sets alone stands here, where no matroid is in reach: `grind` would go through its laws too.

@@ -2,20 +2,17 @@
 use mathlib.Core.Path.{_≡_, refl, sym, ap, _∙_}
 use mathlib.Core.Logic.{_⊎_, inl, inr}
 use mathlib.Core.Bool.{Bool, true, false, _&&_, cond}
-use Prim.Native.Nat.{ℕ, zero, suc, _^_, _≤_, _<_}
+use Prim.Native.Nat.{ℕ, zero, suc, _≤_, _<_}
 use native.Mathlib.Omega.{arith}
 use native.Mathlib.Decide.{ℕ-discrete}
 use Rattle.std.proofs.shelf.Tests.{cases-bool, cases-lt, true≢false}
 use Rattle.labels.specs.Sets.{has, insert, full, Subset, card}
-use Rattle.labels.proofs.Member.{has-pos, has-none, has-full, members}
+use Rattle.labels.proofs.Member.{has-pos, has-none, members}
 use Rattle.labels.proofs.Card.{within-back}
 use Rattle.matroid_laws.specs.Matroids.{IsMatroid, Base, Rank}
 use Rattle.matroid_laws.specs.Greedy.{joined, extended, greedy, start}
 
 -- of sets alone
-insert-within : (k s u e : ℕ) → ((f : ℕ) → has k f ≡ true → has s f ≡ true) → has s e ≡ true → (f : ℕ) → has (insert k e) f ≡ true → has s f ≡ true
-insert-within k s u e p m f x = let d = has-pos s e m in grind (arith, members)
-
 insert-grows : (k j e : ℕ) → 1 ≤ e → Subset k j → Subset (insert k e) (insert j e)
 insert-grows k j e l p f x = grind (arith, members)
 

@@ -1,17 +1,14 @@
 -- The test for a base; every is-independent set lies in a base; the list of all bases.
-use mathlib.Core.Path.{_≡_, refl, sym, ap, _∙_, subst}
+use mathlib.Core.Path.{_≡_}
 use mathlib.Core.Logic.{_⊎_, inl, inr}
-use mathlib.Core.Bool.{Bool, true, false, not, _&&_, _||_}
-use mathlib.Core.List.{List}
-use Prim.Native.Nat.{ℕ, zero, suc, _+_, _-_, _^_, _≤_, _<_}
+use mathlib.Core.Bool.{Bool, true, false, not, _&&_}
+use Prim.Native.Nat.{ℕ, zero, suc, _+_, _≤_}
 use native.Mathlib.Omega.{arith}
 use lib.Count.{ones-le}
-use Rattle.std.proofs.shelf.Ways.{tells}
-use Rattle.std.proofs.shelf.Tests.{cases-bool}
-use Rattle.labels.specs.Sets.{has, insert, remove, Subset, card, no-label}
+use Rattle.labels.specs.Sets.{has, insert, Subset, card}
 use Rattle.labels.specs.Families.{In, Once}
-use Rattle.labels.proofs.Member.{has-insert, has-pos}
-use Rattle.labels.proofs.Card.{card-insert, card-zero}
+use Rattle.labels.proofs.Member.{has-insert}
+use Rattle.labels.proofs.Card.{card-insert}
 use Rattle.labels.proofs.Find.{find, no-label-tells, no-label-passes}
 use Rattle.labels.proofs.Listed.{in-family, family-in, once-family}
 use Rattle.matroid_laws.specs.Matroids.{IsMatroid, Base, isBase, bases}

@@ -1,13 +1,12 @@
 -- The uniform matroid is one: the laws can be met.
-use mathlib.Core.Path.{_≡_, refl, sym, ap, _∙_, subst}
-use mathlib.Core.Bool.{Bool, true, false, not, _&&_, _||_}
-use Prim.Native.Nat.{ℕ, zero, suc, _+_, _-_, _^_, _≤_, _<_}
+use mathlib.Core.Path.{_≡_}
+use mathlib.Core.Bool.{true}
+use Prim.Native.Nat.{ℕ, _^_, _≤_, _<_}
 use native.Mathlib.Omega.{arith}
-use lib.Dec.{ltb, leb}
 use lib.Pow.{pow-pos}
 use lib.Bits.{or-lt}
 use Rattle.std.proofs.shelf.Ways.{tells}
-use Rattle.labels.specs.Sets.{has, single, insert, Subset, card}
+use Rattle.labels.specs.Sets.{single, insert, card}
 use Rattle.labels.proofs.Member.{has-pos}
 use Rattle.labels.proofs.Card.{card-zero, card-subset, card-insert, within, within-back, more}
 use Rattle.labels.proofs.Words.{single-below}

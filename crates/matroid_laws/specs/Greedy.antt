@@ -1,8 +1,7 @@
 -- Going through a set upwards, and keeping each label that leaves the kept set independent.
-use mathlib.Core.Path.{_≡_}
-use mathlib.Core.Bool.{Bool, true, false, _&&_, cond}
-use Prim.Native.Nat.{ℕ, zero, suc, _≤_}
-use Rattle.labels.specs.Sets.{has, insert, full, Subset, card}
+use mathlib.Core.Bool.{Bool, _&&_, cond}
+use Prim.Native.Nat.{ℕ, zero, suc}
+use Rattle.labels.specs.Sets.{has, insert, full, card}
 use Rattle.matroid_laws.specs.Matroids.{IsMatroid, Base, Rank}
 
 -- the label e joins k where it is in s and the set stays independent

@@ -2,8 +2,7 @@
 use mathlib.Core.Path.{_≡_, refl, sym, ap, _∙_, subst}
 use mathlib.Core.Logic.{_⊎_, inl, inr}
 use mathlib.Core.Bool.{Bool, true, false, not, _&&_}
-use mathlib.Core.List.{List, [], _∷_, _++_, append-assoc}
-use Prim.Native.Nat.{ℕ, suc, _-_, _≤_, _<_}
+use Prim.Native.Nat.{ℕ, _-_, _≤_, _<_}
 use native.Mathlib.Omega.{arith}
 use Rattle.std.proofs.shelf.Tests.{cases-lt, true≢false}
 use Rattle.std.specs.declared.option.Option.{Option}
@@ -17,11 +16,9 @@ use Rattle.matroid_laws.proofs.Bases.{base-by-card}
 use Rattle.matroid_laws.proofs.Tests.{base-passes}
 use Rattle.walk_laws.proofs.Views.{Moved, Still, step-view}
 use Rattle.walk_laws.specs.Settings.{Setting, Sound, candidates, fits}
-use Rattle.walk_laws.specs.Steps.{Several, State, after, exchange-at, go-on, in-front, several, step}
-use Rattle.walk_laws.specs.Law.{continued}
+use Rattle.walk_laws.specs.Steps.{State, after, exchange-at, step}
 use Rattle.labels.proofs.Passing.{passing-same}
 use Rattle.walk_laws.specs.declared.Exchange.{Exchange}
-use Rattle.walk_laws.specs.declared.Stop.the-variants.{Finished}
 use Rattle.walk_laws.proofs.Future.{chosen-tells, move-is, moved, stop-same}
 
 -- the test for a base, where the set is not allowed or is a base
@@ -36,19 +33,6 @@ member c f z h = true≢false (sym h ∙ ap (λ (x : ℕ). has x f) z ∙ has-no
 apart : (x y : Bool) → differs x y ≡ true → y ≡ not x
 apart true y h = grind arith
 apart false y h = h
-
-module _ {R V : Type 0} (w : Setting R V) where
-  -- the turns of a loop that fills a list: `several w k s ≡ continued w done (several w left now)` stays
-  pub list-stops : (k : ℕ) (s t : State R V) → step w s ≡ (None, t) → several w (suc k) s ≡ ([], Finished, t)
-  unfolding several
-  list-stops k s t q = ap (go-on w (several w k)) q
-
-  pub list-moves : (k : ℕ) (s t : State R V) (x : Exchange) → step w s ≡ (Some x, t) → several w (suc k) s ≡ in-front w (x, t .present) (several w k t)
-  unfolding several
-  list-moves k s t x q = ap (go-on w (several w k)) q
-
-  pub list-turn : (a r : Several w) (x : Exchange × ℕ) → continued w a (in-front w x r) ≡ continued w (a .0 ++ (x ∷ []), a .1, a .2) r
-  list-turn a r x = ap (λ (l : List (Exchange × ℕ)). (l, r .1, r .2)) (sym (append-assoc (a .0) (x ∷ []) (r .0)))
 
 module _ {R V : Type 0} (w : Setting R V) (W : Sound w) where
   -- of a base, an exchange that is allowed is a base: code asks only whether it is allowed

@@ -60,7 +60,6 @@ not-in x xs n = go (cases-bool (among x xs))
     go (inr p) = p
 
 module _ {R V : Type 0} (w : Setting R V) (W : Sound w) where
-  -- two ways to offer the labels that agree on 1..n
   -- F₀: the sets that the whole walk hands out after t
   module _ (t a : ℕ) (r : R) (T : Base (w .n) (w .independent) t) (F₀ : List ℕ) (whole : Future w (begin-at w t a r) F₀) where
     whole-once : Once (t ∷ F₀)
@@ -138,20 +137,6 @@ module _ {R V : Type 0} (w : Setting R V) (W : Sound w) where
             go : In b H ⊎ In b F → In b H
             go (inl i) = i
             go (inr i) = absurd (clash (ahead .exact b .0 i .1))
-
-        in-visited : (b : ℕ) → Base (w .n) (w .independent) b → In b H → Behind b
-        in-visited b B i = go (cases-eq b (s .present))
-          where
-            open-or-not : (d : ℕ) × TopDifference b (s .present) d → Behind b
-            open-or-not (d, p) = which (has (s .active) d) refl
-              where
-                which : (x : Bool) → has (s .active) d ≡ x → Behind b
-                which false c = inr (d, p, c)
-                which true o = absurd (once-apart b H F split-once i (ahead .exact b .1 (B, (d, p, o))))
-
-            go : (b ≡ s .present) ⊎ (b ≡ s .present → ⊥) → Behind b
-            go (inl q) = inl q
-            go (inr n) = open-or-not (top b (s .present) n)
 
         done : step w s ≡ (None, s) → (b : ℕ) → Base (w .n) (w .independent) b → In b H
         done q b B = go (here-or-ahead b B)

@@ -33,9 +33,6 @@ module _ {V : Type 0} (zero′ : V) (sum : V → V → V) (opposite : V → V) (
   pub swap-front : (a b c : V) → sum a (sum b c) ≡ sum b (sum a c)
   swap-front a b c = sym (G .assoc a b c) ∙ ap (λ (x : V). sum x c) (G .comm a b) ∙ G .assoc b a c
 
-  pub unit-left : (a : V) → sum zero′ a ≡ a
-  unit-left a = G .comm zero′ a ∙ G .unit a
-
   -- m + o, then i more and o less
   pub more-less : (m i o : V) → sum (sum (sum m o) i) (opposite o) ≡ sum m i
   more-less m i o =

@@ -1,10 +1,10 @@
-use mathlib.Core.Path.{_≡_, sym, ap, _∙_}
+use mathlib.Core.Path.{sym, ap, _∙_}
 use Prim.Native.Nat.{_+_, _≤_}
 use native.Mathlib.Omega.{arith}
 use Rattle.matroid_laws.specs.Greedy.{extended}
 use Rattle.matroid.proofs.Turns.{insert-is, extends-none, joins, barred, skipped}
-use Rattle.matroid.proofs.bases.extend.Needs as need
 use Rattle.matroid.proofs.bases.extend.Needs.{then-contains·then-is-independent, then-contains·else-is-independent, else-contains}
+use Rattle.matroid.proofs.bases.extend.Needs as need
 
 pub loop-i-holds : need.loop-i-holds
 loop-i-holds g c = extends-none (g .M·Matroid .independent (c .args .matroid .now)) (c .args .set) (c .args .first)

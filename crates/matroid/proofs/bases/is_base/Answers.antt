@@ -3,8 +3,8 @@ use mathlib.Core.Bool.{false}
 use Prim.Native.Nat.{_+_, _≤_}
 use native.Mathlib.Omega.{arith}
 use Rattle.matroid.proofs.Turns.{insert-is, could-join, one-more, in-it, cannot, dependent, not-full, full-base, tells-base}
-use Rattle.matroid.proofs.bases.is_base.Needs as need
 use Rattle.matroid.proofs.bases.is_base.Needs.{then-not-contains·else-is-independent, else-not-contains}
+use Rattle.matroid.proofs.bases.is_base.Needs as need
 
 pub loop-i-holds : need.loop-i-holds
 loop-i-holds g c = refl

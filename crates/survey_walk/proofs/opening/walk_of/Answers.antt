@@ -5,7 +5,6 @@ use Rattle.labels.specs.Sets.{full}
 use Rattle.graphic.specs.Edges.{graph}
 use Rattle.graphic.specs.declared.graph.Graphic.{Graphic}
 use Rattle.measure.specs.Shifts.{entries-of}
-use Rattle.measure.specs.declared.table.Shifts.{Shifts}
 use Rattle.measure.specs.declared.value.Shift.{Shift}
 use Rattle.tie_rule.specs.declared.closest.Closest.{Closest}
 use Rattle.walk_laws.specs.Settings.{Setting}

@@ -1,11 +1,10 @@
-use mathlib.Core.Path.{_≡_, refl, sym, ap, _∙_, subst}
+use mathlib.Core.Path.{refl, sym, ap, _∙_}
 use mathlib.Core.List.{List, [], _∷_, _++_}
 use Prim.Native.Nat.{ℕ, _<_}
 use native.Mathlib.Omega.{arith}
 use lib.ListN.{length}
 use Rattle.std.proofs.shelf.Results.{err-from-errBy}
 use Rattle.graphic.specs.Edges.{graph}
-use Rattle.graphic.specs.Graphs.{admitted}
 use Rattle.labels.specs.Sets.{limit}
 use Rattle.survey.specs.View.{rows-of, row-of}
 use Rattle.survey_laws.specs.Sheets.{LawfulRow}

@@ -2,7 +2,7 @@ use mathlib.Core.Path.{_≡_}
 use mathlib.Core.List.{map}
 use lib.ListN.{take}
 use Rattle.graphic.specs.Edges.{graph}
-use Rattle.survey.specs.View.{sheet-of, rows-of}
+use Rattle.survey.specs.View.{rows-of}
 use Rattle.survey_walk.specs.Rigs.{row-ends}
 use Rattle.survey_walk.proofs.rig.graphic_of.Given as given
 
