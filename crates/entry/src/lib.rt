@@ -8,7 +8,7 @@ pub const MOST_POINTS: u8 = 32;
 /// Why an entry was refused.
 #[derive(Clone, Copy, Debug, PartialEq, Eq)]
 pub enum EntryRefusal {
-    /// A point, or the number of points, is out of range.
+    /// A point, the number of points, a class or a limit is out of range.
     OutOfRange,
     /// There is a label too many.
     TooManyLabels,

@@ -5,9 +5,9 @@ use mathlib.Core.Bool.{Bool, true, false, _&&_, cond}
 use Prim.Native.Nat.{ℕ, zero, suc, _-_, _^_, _≤_, _<_, min}
 use native.Mathlib.Omega.{arith}
 use lib.Dec.{leb}
-use lib.Bits.{bitAnd, bitOr}
+use lib.Bits.{bitAnd, bitOr, bitXor}
 use Rattle.std.proofs.shelf.Ways.{tells}
-use Rattle.labels.specs.Sets.{has, single, full, reopened, difference}
+use Rattle.labels.specs.Sets.{has, single, full, reopened, difference, insert, swap}
 use Rattle.labels.proofs.Member.{has-zero, has-above, members}
 use Rattle.labels.proofs.Card.{ext}
 use lib.Pow.{pow-pos, pow-mono}
@@ -49,3 +49,10 @@ reopened-all a e x y h p q g =
     ap₂ (λ (x y : ℕ). bitOr (bitAnd a (18446744073709551615 - x)) y) (p ∙ ap full u) (q ∙ ap full v)
     ∙ ap (λ (z : ℕ). bitOr z (full 64)) (and-not-is 64 a (full 64) h (full-below 64 (omega arith)))
     ∙ ext (bitOr (difference a (full 64)) (full 64)) (full 64) (λ f. let z = has-above 64 a f h in grind (arith, members))
+
+-- what `inserted` and `swapped` answer, of labels that a word can hold
+pub insert-is : (s e r : ℕ) → 1 ≤ e → e ≤ 64 → r ≡ bitOr s (word-of e) → r ≡ insert s e
+insert-is s e r l g h = h ∙ ap (bitOr s) (word-in e l g)
+
+pub swap-is : (s e f r : ℕ) → 1 ≤ e → e ≤ 64 → 1 ≤ f → f ≤ 64 → r ≡ bitXor s (bitOr (word-of e) (word-of f)) → r ≡ swap s e f
+swap-is s e f r l g k m h = h ∙ ap (λ (x : ℕ). bitXor s (bitOr x (word-of f))) (word-in e l g) ∙ ap (λ (x : ℕ). bitXor s (bitOr (single e) x)) (word-in f k m)

@@ -2,8 +2,9 @@
 use mathlib.Core.Path.{_≡_, refl, sym, ap, _∙_, subst}
 use mathlib.Core.Logic.{_⊎_, inl, inr}
 use mathlib.Core.Bool.{Bool, true, false}
-use Prim.Native.Nat.{ℕ, zero, suc, _≤_, _<_}
+use Prim.Native.Nat.{ℕ, zero, suc, _≤_, _<_, _+_}
 use native.Mathlib.Omega.{arith}
+use native.Mathlib.Numerals.{add-one}
 use native.Mathlib.Decide.{ℕ-discrete}
 use Rattle.std.proofs.shelf.Tests.{cases-bool}
 use Rattle.labels.specs.Sets.{has, card, remove, no-label}
@@ -101,3 +102,17 @@ pub no-label-passes : (t : ℕ → Bool) (n : ℕ) → ((e : ℕ) → 1 ≤ e �
 no-label-passes t zero f = refl
 no-label-passes t (suc n) f =
     let p = f (suc n) (omega arith) (omega arith) in let q = no-label-passes t n (λ e l g. f e l (omega arith)) in grind arith
+
+-- one label more
+no-label-suc : (t : ℕ → Bool) (n : ℕ) → no-label t n ≡ true → t (suc n) ≡ false → no-label t (suc n) ≡ true
+no-label-suc t n h k = grind arith
+
+pub no-label-more : (t : ℕ → Bool) (n : ℕ) → no-label t n ≡ true → t (n + 1) ≡ false → no-label t (n + 1) ≡ true
+no-label-more t n h k = ap (no-label t) (add-one n) ∙ no-label-suc t n h (ap t (sym (add-one n)) ∙ k)
+
+pub some-label : (t : ℕ → Bool) (n e : ℕ) → 1 ≤ e → e ≤ n → t e ≡ true → no-label t n ≡ false
+some-label t n e l g h = go (no-label t n) refl
+  where
+    go : (x : Bool) → no-label t n ≡ x → x ≡ false
+    go false z = refl
+    go true z = let r = no-label-tells t n z e l g in absurd (grind arith)

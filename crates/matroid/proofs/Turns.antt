@@ -4,19 +4,13 @@ use mathlib.Core.Bool.{Bool, true, false, not, _&&_, cond}
 use Prim.Native.Nat.{ℕ, suc, _+_, _≤_, min}
 use native.Mathlib.Omega.{arith}
 use native.Mathlib.Numerals.{add-one}
-use lib.Bits.{bitOr}
+use Rattle.std.proofs.shelf.Tests.{and-right}
 use Rattle.labels.specs.Sets.{has, insert, full, no-label}
-use Rattle.labels.proofs.Find.{no-label-tells}
-use Rattle.label_words.specs.Words.{word-of}
-use Rattle.label_words.proofs.Held.{word-in}
+use Rattle.labels.proofs.Find.{some-label}
 use mathlib.Core.Logic.{_↔_}
 use Rattle.matroid_laws.specs.Matroids.{Base, isBase}
 use Rattle.matroid_laws.proofs.Tests.{base-tells, base-passes}
 use Rattle.matroid_laws.specs.Greedy.{joined, extended, greedy, start}
-
--- the code's `inserted`
-pub insert-is : (s e r : ℕ) → 1 ≤ e → e ≤ 64 → r ≡ bitOr s (word-of e) → r ≡ insert s e
-insert-is s e r l g h = h ∙ ap (bitOr s) (word-in e l g)
 
 pub extends-none : (f : ℕ → Bool) (s k : ℕ) → k ≡ extended f s k 0
 unfolding extended
@@ -46,11 +40,8 @@ module _ (f : ℕ → Bool) (s k e h : ℕ) (inv : h ≡ extended f s k e) where
 abbrev pub could-join : (ℕ → Bool) → ℕ → ℕ → Bool
 could-join f b e = not (has b e) && f (insert b e)
 
-no-more : (f : ℕ → Bool) (b e : ℕ) → no-label (could-join f b) e ≡ true → could-join f b (suc e) ≡ false → no-label (could-join f b) (suc e) ≡ true
-no-more f b e h k = grind arith
-
-pub one-more : (f : ℕ → Bool) (b e : ℕ) → no-label (could-join f b) e ≡ true → could-join f b (e + 1) ≡ false → no-label (could-join f b) (e + 1) ≡ true
-one-more f b e h k = ap (no-label (could-join f b)) (add-one e) ∙ no-more f b e h (ap (could-join f b) (sym (add-one e)) ∙ k)
+joins-it : (f : ℕ → Bool) (b e : ℕ) → has b e ≡ false → f (insert b e) ≡ true → could-join f b e ≡ true
+joins-it f b e o h = grind arith
 
 pub in-it : (f : ℕ → Bool) (b e : ℕ) → has b e ≡ true → could-join f b e ≡ false
 in-it f b e h = grind arith
@@ -62,11 +53,7 @@ pub dependent : (n : ℕ) (f : ℕ → Bool) (b : ℕ) → f b ≡ false → isB
 dependent n f b h = grind arith
 
 pub not-full : (n : ℕ) (f : ℕ → Bool) (b e : ℕ) → 1 ≤ e → e ≤ n → has b e ≡ false → f (insert b e) ≡ true → isBase n f b ≡ false
-not-full n f b e l g o h = go (no-label (could-join f b) n) refl
-  where
-    go : (x : Bool) → no-label (could-join f b) n ≡ x → (f b && x) ≡ false
-    go false z = grind arith
-    go true z = let r = no-label-tells (could-join f b) n z e l g in absurd (grind arith)
+not-full n f b e l g o h = and-right (f b) (no-label (could-join f b) n) (some-label (could-join f b) n e l g (joins-it f b e o h))
 
 pub full-base : (n e : ℕ) (f : ℕ → Bool) (b : ℕ) → n ≡ e → f b ≡ true → no-label (could-join f b) e ≡ true → isBase n f b ≡ true
 full-base n e f b z h k = let q = ap (no-label (could-join f b)) z in grind arith

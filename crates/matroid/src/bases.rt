@@ -1,5 +1,5 @@
 ghost use Rattle.labels.specs.Sets.{card};
-ghost use Rattle.matroid_laws.specs.Greedy.{extended, start as start-of};
+ghost use Rattle.matroid_laws.specs.Greedy.{extended, greedy as greedy-of, start as start-of};
 ghost use Rattle.matroid_laws.specs.Matroids.{Base, Rank, isBase};
 ghost use mathlib.Core.Bool.{true};
 ghost use mathlib.Core.Logic.{_↔_};
@@ -26,11 +26,18 @@ fn extend<M: Matroid>(matroid: &M, set: u64, first: u64) -> u64
     held
 }
 
+/// Goes through the labels of `set` upwards from the empty set, and keeps each that leaves the kept set independent.
+pub fn greedy<M: Matroid>(matroid: &M, set: u64) -> u64
+    ensures { λ r. ⌜ r ≡ greedy-of (M·Matroid .size (now (matroid .entry))) (M·Matroid .independent (now (matroid .entry))) set ⌝ }
+{
+    extend(matroid, set, 0)
+}
+
 /// The rank of `set`: the number of labels of its largest independent part.
 pub fn rank<M: Matroid>(matroid: &M, set: u64) -> u8
     ensures { λ r. ⌜ Rank (M·Matroid .independent (now (matroid .entry))) set r ⌝ }
 {
-    extend(matroid, set, 0).count_ones() as u8
+    greedy(matroid, set).count_ones() as u8
 }
 
 /// Whether `set` is a base: independent, with no label that could join it.
@@ -58,6 +65,6 @@ pub fn start<M: Matroid>(matroid: &M, offered: u64) -> u64
     ensures greedy { λ r. ⌜ r ≡ start-of (M·Matroid .size (now (matroid .entry))) (M·Matroid .independent (now (matroid .entry))) offered ⌝ }
     ensures base { λ r. ⌜ Base (M·Matroid .size (now (matroid .entry))) (M·Matroid .independent (now (matroid .entry))) r ⌝ }
 {
-    let kept = extend(matroid, offered, 0);
+    let kept = greedy(matroid, offered);
     extend(matroid, full_to(matroid.size()), kept)
 }

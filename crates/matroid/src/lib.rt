@@ -3,6 +3,7 @@
 mod bases;
 mod interface;
 
+pub use bases::greedy;
 pub use bases::is_base;
 pub use bases::rank;
 pub use bases::start;

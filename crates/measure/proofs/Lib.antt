@@ -1,2 +1,2 @@
 mod Group
-mod Entries
+mod Flips

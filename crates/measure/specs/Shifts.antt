@@ -1,12 +1,12 @@
 -- Shifts, their sums modulo 2 ^ 64, and a table of them.
 use mathlib.Core.List.{List}
-use Prim.Native.Nat.{ℕ, zero, suc}
+use Prim.Native.Nat.{ℕ}
 use lib.Dec.{lit<}
 use lib.IntN.{ℤ, pos, _+ℤ_, negℤ}
-use lib.ListN.{getD, take}
 use mir.Syntax.{w64}
 use Rattle.std.specs.shelf.Signed.{wrapped}
 use Rattle.std.proofs.shelf.Signed.{sfits-wrapped}
+use Rattle.entries.specs.Table.{values, entry-or}
 use Rattle.measure.specs.declared.table.Shifts.{Shifts}
 use Rattle.measure.specs.declared.value.Shift.{Shift}
 
@@ -28,9 +28,8 @@ shift-opposite a = shift-of (negℤ (a .across)) (negℤ (a .along))
 
 -- the shifts of the labels 1, 2, ..
 abbrev pub entries-of : Shifts → List Shift
-entries-of m = take (m .used) (m .places)
+entries-of m = values (m .table)
 
 -- the shift of a label; none where the label has no entry
 abbrev pub entry-at : List Shift → ℕ → Shift
-entry-at entries zero = shift-zero
-entry-at entries (suc k) = getD entries k shift-zero
+entry-at entries e = entry-or entries shift-zero e

@@ -1,26 +1,29 @@
 ghost use Prim.Native.Nat.{_<_};
 ghost use Rattle.labels.specs.Sets.{limit};
 ghost use Rattle.measure.specs.Shifts.{entries-of, shift-of};
+ghost use Rattle.measure.specs.Words.{word-with, words-of};
 ghost use Rattle.std.specs.Results.{Cases};
 ghost use lib.ListN.{length};
 ghost use mathlib.Core.List.{[], _++_, _∷_};
 ghost use mathlib.Core.Path.{_≡_};
 use crate::table::Shifts;
+use crate::table::Words;
 use crate::value::Shift;
+use crate::value::Word;
+use entries::Entries;
 use entry::EntryRefusal;
-use labels::LIMIT;
 
 impl Shifts {
     /// No shifts yet.
     pub fn new() -> Shifts
         ensures { λ r. ⌜ entries-of r ≡ [] ⌝ }
     {
+        let filler = Shift {
+            across: 0,
+            along: 0,
+        };
         Shifts {
-            places: [Shift {
-                across: 0,
-                along: 0,
-            }; LIMIT],
-            used: 0,
+            table: Entries::new(filler),
         }
     }
 
@@ -31,15 +34,32 @@ impl Shifts {
             × (entries-of (now (self .exit)) ≡ entries-of (now (self .entry)) ++ shift-of across along ∷ []))
             (λ e. (length (entries-of (now (self .entry))) ≡ limit)
             × (e ≡ EntryRefusal.TooManyLabels)
-            × (now (self .exit) .places ≡ now (self .entry) .places)
-            × (now (self .exit) .used ≡ now (self .entry) .used)) ⌝ }
+            × (now (self .exit) ≡ now (self .entry))) ⌝ }
         ensures same { λ _. ⌜ (shift-of across along .across ≡ across) × (shift-of across along .along ≡ along) ⌝ }
     {
-        if self.used == LIMIT {
-            return Err(EntryRefusal::TooManyLabels);
+        self.table.add(Shift { across, along })
+    }
+}
+
+impl Words {
+    /// No words yet.
+    pub fn new() -> Words
+        ensures { λ r. ⌜ words-of r ≡ [] ⌝ }
+    {
+        Words {
+            table: Entries::new(Word { bits: 0 }),
         }
-        self.places[self.used] = Shift { across, along };
-        self.used += 1;
-        Ok(())
+    }
+
+    /// Adds the word of the next label. Refused, with nothing changed, if there can be no such label.
+    pub fn add(&mut self, bits: u64) -> Result<(), EntryRefusal>
+        ensures { λ r. ⌜ Cases r
+            (λ _. (length (words-of (now (self .entry))) < limit)
+            × (words-of (now (self .exit)) ≡ words-of (now (self .entry)) ++ word-with bits ∷ []))
+            (λ e. (length (words-of (now (self .entry))) ≡ limit)
+            × (e ≡ EntryRefusal.TooManyLabels)
+            × (now (self .exit) ≡ now (self .entry))) ⌝ }
+    {
+        self.table.add(Word { bits })
     }
 }

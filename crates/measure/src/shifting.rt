@@ -10,7 +10,7 @@ impl Shifts {
     pub fn len(&self) -> usize
         ensures { λ r. ⌜ r ≡ length (entries-of (now (self .entry))) ⌝ }
     {
-        self.used
+        self.table.len() as usize
     }
 }
 
@@ -47,11 +47,7 @@ pub impl Measure for Shifts as ShiftsMeasure {
     }
 
     fn worth(&self, label: u8) -> Shift {
-        let next = label as usize;
-        if next == 0 || next > self.len() {
-            return self.zero();
-        }
-        self.places[next - 1]
+        self.table.at(label, self.zero())
     }
 }
 

@@ -9,3 +9,9 @@ pub struct Shift {
     ghost wide: { mag across < 2 ^ 63 },
     ghost long: { mag along < 2 ^ 63 },
 }
+
+/// The places that something flips, one for each binary digit. A place that is flipped twice is as it was.
+#[derive(Clone, Copy, Debug, PartialEq)]
+pub struct Word {
+    pub bits: u64,
+}

@@ -1,1 +1,3 @@
 mod Highest
+mod Lowest
+mod Turns

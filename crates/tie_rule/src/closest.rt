@@ -10,7 +10,7 @@ use crate::rule::TieRule;
 const WIDTH: u8 = 64;
 
 /// The labels of `set` below `label`.
-fn below(label: u8, set: u64) -> u64
+pub(crate) fn below(label: u8, set: u64) -> u64
     ensures { λ r. ⌜ ((f : ℕ) → has r f ≡ (ltb f label && has set f)) ⌝ }
 {
     if label == 0 {
@@ -23,7 +23,7 @@ fn below(label: u8, set: u64) -> u64
 }
 
 /// The highest label of `set`, or 0.
-fn highest(set: u64) -> u8
+pub(crate) fn highest(set: u64) -> u8
     ensures { λ r. ⌜ r ≡ 64 - leadingZeros 64 set ⌝ }
 {
     WIDTH - set.leading_zeros() as u8

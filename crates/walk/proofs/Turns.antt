@@ -5,18 +5,8 @@ use Prim.Native.Nat.{ℕ, suc, _+_, _≤_}
 use native.Mathlib.Omega.{arith}
 use native.Mathlib.Numerals.{add-one}
 use native.Mathlib.Decide.{ℕ-discrete}
-use lib.Bits.{bitOr, bitXor}
-use Rattle.labels.specs.Sets.{has, insert, swap, single, differs, passing}
-use Rattle.label_words.specs.Words.{word-of}
-use Rattle.label_words.proofs.Held.{word-in}
+use Rattle.labels.specs.Sets.{has, insert, differs, passing}
 use Rattle.walk_laws.specs.Settings.{summed}
-
--- the code's `inserted` and `swapped`
-pub insert-is : (s e r : ℕ) → 1 ≤ e → e ≤ 64 → r ≡ bitOr s (word-of e) → r ≡ insert s e
-insert-is s e r l g h = h ∙ ap (bitOr s) (word-in e l g)
-
-pub swap-is : (s e f r : ℕ) → 1 ≤ e → e ≤ 64 → 1 ≤ f → f ≤ 64 → r ≡ bitXor s (bitOr (word-of e) (word-of f)) → r ≡ swap s e f
-swap-is s e f r l g k m h = h ∙ ap (λ (x : ℕ). bitXor s (bitOr x (word-of f))) (word-in e l g) ∙ ap (λ (x : ℕ). bitXor s (bitOr (single e) x)) (word-in f k m)
 
 -- ---- the labels that pass
 

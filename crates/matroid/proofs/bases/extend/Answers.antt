@@ -2,7 +2,8 @@ use mathlib.Core.Path.{sym, ap, _∙_}
 use Prim.Native.Nat.{_+_, _≤_}
 use native.Mathlib.Omega.{arith}
 use Rattle.matroid_laws.specs.Greedy.{extended}
-use Rattle.matroid.proofs.Turns.{insert-is, extends-none, joins, barred, skipped}
+use Rattle.label_words.proofs.Held.{insert-is}
+use Rattle.matroid.proofs.Turns.{extends-none, joins, barred, skipped}
 use Rattle.matroid.proofs.bases.extend.Needs.{then-contains·then-is-independent, then-contains·else-is-independent, else-contains}
 use Rattle.matroid.proofs.bases.extend.Needs as need
 

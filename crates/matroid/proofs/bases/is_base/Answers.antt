@@ -2,7 +2,9 @@ use mathlib.Core.Path.{_≡_, refl, sym, ap, _∙_}
 use mathlib.Core.Bool.{false}
 use Prim.Native.Nat.{_+_, _≤_}
 use native.Mathlib.Omega.{arith}
-use Rattle.matroid.proofs.Turns.{insert-is, could-join, one-more, in-it, cannot, dependent, not-full, full-base, tells-base}
+use Rattle.labels.proofs.Find.{no-label-more}
+use Rattle.label_words.proofs.Held.{insert-is}
+use Rattle.matroid.proofs.Turns.{could-join, in-it, cannot, dependent, not-full, full-base, tells-base}
 use Rattle.matroid.proofs.bases.is_base.Needs.{then-not-contains·else-is-independent, else-not-contains}
 use Rattle.matroid.proofs.bases.is_base.Needs as need
 
@@ -19,7 +21,7 @@ loop-i-again g c =
           cannot f b (i + 1) (sym (ap f (insert-is b (i + 1) _ (omega arith) small (w .inserted .ensures))) ∙ sym (w .is-independent-then-not-contains .ensures) ∙ w .if-is-independent .left)
       | else-not-contains w ↦ in-it f b (i + 1) (sym (c .contains .ensures) ∙ w .if-not-contains .left)
     ] in
-    one-more f b i (c .loop-i .inv) out
+    no-label-more (could-join f b) i (c .loop-i .inv) out
 
 pub returns : need.returns
 returns g c =

@@ -2,8 +2,9 @@ use mathlib.Core.Path.{sym, ap, _∙_}
 use Prim.Native.Nat.{_+_, _≤_}
 use native.Mathlib.Omega.{arith}
 use Rattle.labels.specs.Sets.{has, passing, swap}
+use Rattle.label_words.proofs.Held.{insert-is, swap-is}
 use Rattle.walk.specs.States.{swappable}
-use Rattle.walk.proofs.Turns.{insert-is, swap-is, none-passing, passes, fails, apart-both, apart-first, apart-none}
+use Rattle.walk.proofs.Turns.{none-passing, passes, fails, apart-both, apart-first, apart-none}
 use Rattle.walk.proofs.state.Walk.candidates.Needs.{then-contains-inside·then-is-independent, then-contains-inside·else-is-independent, else-contains-inside}
 use Rattle.walk.proofs.state.Walk.candidates.Needs as need
 

@@ -1,7 +1,7 @@
 use mathlib.Core.Path.{refl}
 use native.Mathlib.Omega.{arith}
+use Rattle.label_words.proofs.Held.{swap-is}
 use Rattle.walk.specs.States.{setting, state-of}
-use Rattle.walk.proofs.Turns.{swap-is}
 use Rattle.walk.proofs.Made.{few-after, chosen, exchange-is, after-is}
 use Rattle.walk.proofs.state.Walk.exchange.Needs as need
 

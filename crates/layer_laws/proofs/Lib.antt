@@ -1,0 +1,5 @@
+mod Sets
+mod Restriction
+pub mod Truncation
+pub mod Minor
+pub mod Dual

@@ -1,0 +1,2 @@
+mod Masks
+mod Limits
