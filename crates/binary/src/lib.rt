@@ -1,4 +1,6 @@
 //! Independence of the columns of a matrix over two elements, by elimination.
+#![tactic(auto)]
+
 mod matrix;
 
 ghost use Rattle.binary_laws.specs.Binary.{binary};

@@ -1,4 +1,6 @@
 //! What holds of binary matroids, where each label carries a word, and of graphic ones, where it is an edge.
+#![tactic(auto)]
+
 ghost use Rattle.binary_laws.specs.Binary.{BinaryIs, BinaryMeans, BinaryOdd, EvenPlaces};
 ghost use Rattle.binary_laws.specs.Graphic.{GraphicOdd};
 

@@ -1,5 +1,7 @@
 //! Binary matroids: each label has a column of 64 places over two elements, and a set of labels is independent where no part of it,
 //! but the empty one, meets every place an even number of times.
+#![tactic(auto)]
+
 mod columns;
 mod independence;
 mod matrix;

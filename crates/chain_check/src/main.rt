@@ -1,4 +1,6 @@
 //! Reads a chain file from standard input and prints what each of its records says, then whether it is accepted.
+#![tactic(auto)]
+
 use anyhow::anyhow;
 use chain_lists::Total;
 use chain_reader::{Entry, ListReader, read};

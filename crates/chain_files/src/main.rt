@@ -1,5 +1,7 @@
 //! A walk's list is written as a chain file, read back and damaged: prints a line for each thing that is found, to be held against
 //! what was worked out apart from this program.
+#![tactic(auto)]
+
 mod damage;
 mod refusals;
 mod shown;

@@ -1,4 +1,6 @@
 //! What a chain file is made of, and what is lawful in it.
+#![tactic(auto)]
+
 ghost use Rattle.chain_lists.specs.Lists.{after, kind_length, kind_number, kind_numbered, lawful_head, lawful_swap, total_kind};
 ghost use Rattle.std.specs.Prelude.{◌≡◌, ℕ, ◌≤◌, true, bit_or, bit_xor};
 ghost use Rattle.label_words.specs.Words.{word_of};

@@ -1,4 +1,5 @@
 //! The list layer of chain files: it hands out what each record says, and finds everything that is wrong with a file.
+#![tactic(auto)]
 
 mod bodies;
 mod judging;

@@ -1,4 +1,5 @@
 //! The record layer of chain files: it frames records, hands each out as a part of the file, and finds what is wrong with frames.
+#![tactic(auto)]
 
 mod framing;
 mod reading;

@@ -1,5 +1,7 @@
 //! A file with one of each kind of record but one, written and read back: what the contracts of writer and reader presuppose can
 //! be met, and together they say that the list that was written is read.
+#![tactic(auto)]
+
 ghost use Rattle.chain_reader.specs.Reading.{Summarises};
 ghost use Rattle.chain_trip.specs.Trip.{lawful_trip, trip_of};
 ghost use Rattle.std.specs.Prelude.{◌≡◌, true, false, length, MatchOption};

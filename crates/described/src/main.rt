@@ -1,4 +1,5 @@
 //! Reads a described rig from standard input and prints its list.
+#![tactic(auto)]
 
 mod building;
 mod description;

@@ -1,4 +1,6 @@
 //! What whoever enters labels by hand can be refused.
+#![tactic(auto)]
+
 ghost use Rattle.entry.specs.Numbers.{entry_number};
 ghost use Rattle.std.specs.Prelude.{◌≡◌};
 

@@ -1,4 +1,6 @@
 //! A tie rule of one's own, as docs/OWN_RULE.md builds it, and a walk by it.
+#![tactic(auto)]
+
 mod rule;
 
 pub use rule::Favourite;

@@ -1,4 +1,6 @@
 //! Graphic matroids: the labels are the edges of a graph, and a set of edges is independent where it is a forest.
+#![tactic(auto)]
+
 mod edge;
 mod entries;
 mod graph;

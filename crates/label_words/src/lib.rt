@@ -1,5 +1,7 @@
 //! Sets of labels as code has them: 64-bit words, label `e` at bit `e - 1`.
 //! Every function answers for every label; a label outside 1 to 64 is in no word and cannot join one.
+#![tactic(auto)]
+
 ghost use Rattle.std.specs.Prelude.{◌≡◌, ◌<◌, ◌≤◌, min, bit_or, bit_xor};
 ghost use Rattle.label_words.specs.Words.{word_of};
 ghost use Rattle.labels.specs.Sets.{full, has, reopened as reopened-at};

@@ -1,4 +1,6 @@
 //! The lines that are printed, with what each of them says, byte for byte.
+#![tactic(auto)]
+
 mod line;
 mod refused_line;
 #[cfg(test)]

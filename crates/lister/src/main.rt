@@ -1,4 +1,6 @@
 //! Reads a survey from standard input and prints every chain of it once, with the count and the total at the end.
+#![tactic(auto)]
+
 use anyhow::anyhow;
 use intake::take_in;
 use lines::{Line, RefusedLine, TotalLine};

@@ -1,5 +1,5 @@
 ghost use Rattle.labels.specs.Sets.{card};
-ghost use Rattle.matroid_laws.specs.Greedy.{extended, greedy as greedy-of, start as start_of_lem};
+ghost use Rattle.matroid_laws.specs.Greedy.{extended, greedy as greedy_of, start as start_of};
 ghost use Rattle.matroid_laws.specs.Matroids.{Base, Rank, is_base};
 ghost use Rattle.std.specs.Prelude.{◌≡◌, true, ◌↔◌};
 
@@ -25,7 +25,7 @@ fn extend<M: Matroid>(matroid: &M, set: u64, first: u64) -> u64
 
 /// Goes through the labels of `set` upwards from the empty set, and keeps each that leaves the kept set independent.
 pub fn greedy<M: Matroid>(matroid: &M, set: u64) -> u64
-    ensures { result ≡ greedy-of (M.Matroid.size matroid.now) (M.Matroid.independent matroid.now) set }
+    ensures { result ≡ greedy_of (M.Matroid.size matroid.now) (M.Matroid.independent matroid.now) set }
 {
     extend(matroid, set, 0)
 }
@@ -59,7 +59,7 @@ pub fn is_base<M: Matroid>(matroid: &M, set: u64) -> bool
 /// The start for an offered set: through that set upwards, then through all labels upwards, each kept that leaves
 /// the kept set independent. It is always a base.
 pub fn start<M: Matroid>(matroid: &M, offered: u64) -> u64
-    ensures greedy { result ≡ start_of_lem (M.Matroid.size matroid.now) (M.Matroid.independent matroid.now) offered }
+    ensures greedy { result ≡ start_of (M.Matroid.size matroid.now) (M.Matroid.independent matroid.now) offered }
     ensures base { Base (M.Matroid.size matroid.now) (M.Matroid.independent matroid.now) result }
 {
     let kept = greedy(matroid, offered);

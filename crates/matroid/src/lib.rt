@@ -1,5 +1,7 @@
 //! Matroids behind two questions, their size and whether a set of labels is independent;
 //! and what can be found of any matroid by these two questions alone.
+#![tactic(auto)]
+
 mod bases;
 mod interface;
 

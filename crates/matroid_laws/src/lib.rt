@@ -1,4 +1,6 @@
 //! What holds of every matroid: its bases, exchanges, ranks, and the start of a walk.
+#![tactic(auto)]
+
 ghost use Rattle.matroid_laws.specs.Greedy.{GreedyRanks, StartsAtBase};
 ghost use Rattle.matroid_laws.specs.Matroids.{ExchangeIn, ExchangeOut, ListedBases, OneCard, TestedBases, UniformIs};
 

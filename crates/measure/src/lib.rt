@@ -1,4 +1,6 @@
 //! Measures: what labels are worth. Shifts are one such measure, and words of flipped places another.
+#![tactic(auto)]
+
 mod adding;
 mod flipping;
 mod interface;

@@ -1,5 +1,7 @@
 //! Partition matroids: each label lies in one of a few classes, each class has a limit, and a set of labels is independent where it has
 //! no more labels of a class than the class's limit.
+#![tactic(auto)]
+
 mod classes;
 mod entering;
 mod independence;

@@ -1,4 +1,6 @@
 //! Walks on piles of layers and on odd matroids: a line for each, with the number of bases that are found without a walk.
+#![tactic(auto)]
+
 mod comparing;
 mod kinds;
 mod measuring;

@@ -1,4 +1,6 @@
 //! Walks on small graphs: prints a line for each thing that is found, to be held against what was worked out by hand.
+#![tactic(auto)]
+
 mod closing;
 mod counting;
 mod listing;

@@ -1,4 +1,6 @@
 //! Rolls: lists of entries of any kind in a buffer that the caller lends.
+#![tactic(auto)]
+
 mod filling;
 mod lent;
 mod reading;

@@ -7,6 +7,7 @@
 //! Rows are gone through downwards. Refused, in this order within a row: a row past the highest label (3), a wrong form, or no row at
 //! all (1), a point outside 1 to the number of points, or a shift beyond a million either way (2), the same point twice (4), a pair of
 //! points that an earlier row has, either way round (5). All else is accepted.
+#![tactic(auto)]
 
 mod fields;
 mod judging;

@@ -1,4 +1,6 @@
 //! Tie rules: which of several labels that would all do is taken.
+#![tactic(auto)]
+
 mod closest;
 mod furthest;
 mod rule;

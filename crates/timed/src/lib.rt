@@ -1,4 +1,6 @@
 //! Walks for the benchmark, as functions that C can call. Each goes on to the end, or until it has handed out so many sets.
+#![tactic(auto)]
+
 use binary_matroid::Binary;
 use graphic::Graphic;
 use labels::LIMIT;

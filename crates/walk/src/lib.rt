@@ -1,4 +1,6 @@
 //! The walk over all bases of a matroid, one exchange at a time.
+#![tactic(auto)]
+
 mod calls;
 mod candidates;
 mod entry;

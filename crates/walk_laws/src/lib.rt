@@ -1,4 +1,6 @@
 //! What a walk answers, and the law of its whole life.
+#![tactic(auto)]
+
 ghost use Rattle.walk_laws.specs.Steps.{entering, leaving};
 ghost use Rattle.std.specs.Prelude.{◌≡◌};
 
