@@ -1,6 +1,6 @@
 -- The members of the words that code makes.
 use Rattle.std.proofs.Common.{◌≡◌, ℕ, zero, suc, ◌-◌, ◌/◌, ◌%◌, ◌^◌, ◌<◌, ◌≤◌, Bool, true, false, not, ◌&&◌, ◌||◌, eqb, ltb, leb, ◌⊎◌, sym, refl, ◌∙◌, inl, inr, arith, pow_pos}
-use mathlib.Core.Bool.{and_true}
+use mathlib.Core.Bool.{and-true}
 use native.Mathlib.Nat.{sub-zero}
 use lib.Dec.{leb-suc-zero, leb-suc-suc}
 use lib.Bits.{bit_and, bit_or, bit_xor, and_mod, or_mod, xor_mod, and_shr, or_shr, xor_shr}
@@ -76,7 +76,7 @@ bit_not (suc w) m (suc k) h =
 
 -- the n lowest places
 pub bit_full : (n k : ℕ) → bit (2 ^ n - 1) k ≡ ltb k n
-bit_full n k = let e = bit_not n 0 k (pow_pos n) in simp (sub-zero, bit_zero, and_true) at e
+bit_full n k = let e = bit_not n 0 k (pow_pos n) in simp (sub-zero, bit_zero, and-true) at e
 
 -- ---- words of code: `s & !m`, `1 << k`, `(1 << k) - 1`, at w places
 
