@@ -1,12 +1,13 @@
 //! Reads a survey from standard input and prints every chain of it once, with the count and the total at the end.
 #![tactic(auto)]
 
+ghost use Rattle.std.specs.Prelude.{◌≤◌, length, IfOk};
+
 use anyhow::anyhow;
-use intake::take_in;
 use lines::{Line, RefusedLine, TotalLine};
 use roll::Roll;
 use std::io;
-use std::io::{BufWriter, Write};
+use std::io::{BufWriter, Read, Write};
 use survey_walk::{SurveyWalk, walk_of};
 use walk::{Parts, Stop};
 
@@ -15,6 +16,22 @@ const MOST_INPUT: usize = 4096;
 
 /// How many chains are listed at a time.
 const BATCH: usize = 1024;
+
+/// Fills the buffer from standard input, and answers how many bytes came.
+fn take_in(rt: &HostRuntime, buffer: &mut [u8]) -> io::Result<usize>
+    ensures { IfOk result (λ n. n ≤ length buffer.new) }
+{
+    let mut input = rt.stdin();
+    let mut n: usize = 0;
+    for _ in 0..buffer.len() {
+        let came = input.read(&mut buffer[n..])?;
+        if came == 0 {
+            break;
+        }
+        n += came;
+    }
+    Ok(n)
+}
 
 /// Writes the chains of a roll, numbered from `first` on.
 fn write_roll<W: Write>(out: &mut W, roll: &Roll<u64>, first: u64) -> io::Result<()> {

@@ -1,46 +1,18 @@
 -- The table passes its test, and a case that passes holds.
-use Rattle.std.proofs.Common.{◌≡◌, ℕ, Bool, true, false, ◌&&◌, eqb, List, [], ◌∷◌, length, refl, ap, ◌∙◌, ap₂, arith}
+use Rattle.std.proofs.Common.{◌≡◌, ℕ, Bool, true, ◌&&◌, eqb, List, [], ◌∷◌, refl, ap, ◌∙◌, ap₂, arith}
 use lib.Count.{ones, ones_in}
 use Rattle.std.specs.List.{AllByRecursion as All}
 use Rattle.std.proofs.lemmas.Bool.{eqb-true, true≢false}
 use Rattle.labels.specs.Sets.{has, bit, single, passing, first_passing, highest_below}
 use Rattle.labels.specs.Families.{numbers_below}
-use Rattle.matroid_laws.specs.Greedy.{extended, start}
-use Rattle.matroid_laws.specs.Matroids.{bases}
+use Rattle.matroid_laws.specs.Greedy.{extended}
 use Rattle.binary_laws.specs.Binary.{xor_sum}
 use Rattle.walk_laws.specs.declared.Stop.{Stop}
 use Rattle.walk_laws.specs.declared.Stop.TheVariants.{Full, Finished}
 use Rattle.walk_laws.specs.Settings.{candidates, summed}
 use Rattle.walk_laws.specs.Steps.{step, several}
-use Rattle.walk_laws.specs.Lives.{sets_of}
-use Rattle.small_rigs.specs.Cases.{Case, lists, starts, has_bases, Holds, set_of, sets, listed_first}
+use Rattle.small_rigs.specs.Cases.{Case, lists, starts, has_bases, Holds, same, is_finished, test, all_pass}
 use Rattle.small_rigs.specs.Table.{table, SmallRigs}
-
--- ---- the test
-
-abbrev same : List ℕ → List ℕ → Bool
-same [] [] = true
-same [] (y ∷ ys) = false
-same (x ∷ xs) [] = false
-same (x ∷ xs) (y ∷ ys) = eqb x y && same xs ys
-
-abbrev is_finished : Stop → Bool
-is_finished Full = false
-is_finished Finished = true
-
-abbrev test : Case → Bool
-test (lists rig choice offered opened expected) =
-    same (start rig.n rig.independent (set_of offered) ∷ sets_of (listed_first rig choice (set_of offered) (set_of opened) (length expected)).0) (sets expected)
-    && (is_finished (listed_first rig choice (set_of offered) (set_of opened) (length expected)).1
-    && eqb (listed_first rig choice (set_of offered) (set_of opened) (length expected)).2.count (length expected))
-test (starts rig offered base) = eqb (start rig.n rig.independent (set_of offered)) (set_of base)
-test (has_bases rig expected) = same (bases rig.n rig.independent) (sets expected)
-
-abbrev all_pass : List Case → Bool
-all_pass [] = true
-all_pass (c ∷ cs) = test c && all_pass cs
-
--- ---- what passes holds
 
 first_of : (a b : Bool) → (a && b) ≡ true → a ≡ true
 first_of a b h = grind arith

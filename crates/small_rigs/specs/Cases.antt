@@ -1,11 +1,12 @@
--- What can be said of a small rig.
-use Rattle.std.specs.Prelude.{◌≡◌, ℕ, Bool, List, [], ◌∷◌, length}
+-- What can be said of a small rig, and the test of it.
+use Rattle.std.specs.Prelude.{◌≡◌, ℕ, Bool, true, false, ◌&&◌, List, [], ◌∷◌, length, ◌==◌}
 use Rattle.labels.specs.Sets.{insert}
 use Rattle.matroid_laws.specs.Matroids.{bases}
 use Rattle.matroid_laws.specs.Greedy.{start}
-use Rattle.walk_laws.specs.declared.Stop.TheVariants.{Finished}
+use Rattle.walk_laws.specs.declared.Stop.{Stop}
+use Rattle.walk_laws.specs.declared.Stop.TheVariants.{Full, Finished}
 use Rattle.walk_laws.specs.Settings.{Setting}
-use Rattle.walk_laws.specs.Steps.{Several, begun, several}
+use Rattle.walk_laws.specs.Steps.{State, Several, begun, several}
 use Rattle.walk_laws.specs.Lives.{sets_of}
 
 -- a matroid on 1..n
@@ -55,3 +56,27 @@ Holds (lists rig choice offered opened expected) =
     × ((listed_first rig choice (set_of offered) (set_of opened) (length expected)).2.count ≡ length expected)
 Holds (starts rig offered base) = start rig.n rig.independent (set_of offered) ≡ set_of base
 Holds (has_bases rig expected) = bases rig.n rig.independent ≡ sets expected
+
+-- ---- the test
+
+abbrev pub same : List ℕ → List ℕ → Bool
+same [] [] = true
+same [] (y ∷ ys) = false
+same (x ∷ xs) [] = false
+same (x ∷ xs) (y ∷ ys) = x == y && same xs ys
+
+abbrev pub is_finished : Stop → Bool
+is_finished Full = false
+is_finished Finished = true
+
+abbrev pub test : Case → Bool
+test (lists rig choice offered opened expected) =
+    same (start rig.n rig.independent (set_of offered) ∷ sets_of (listed_first rig choice (set_of offered) (set_of opened) (length expected)).0) (sets expected)
+    && (is_finished (listed_first rig choice (set_of offered) (set_of opened) (length expected)).1
+    && (listed_first rig choice (set_of offered) (set_of opened) (length expected)).2.count == length expected)
+test (starts rig offered base) = start rig.n rig.independent (set_of offered) == set_of base
+test (has_bases rig expected) = same (bases rig.n rig.independent) (sets expected)
+
+abbrev pub all_pass : List Case → Bool
+all_pass [] = true
+all_pass (c ∷ cs) = test c && all_pass cs

@@ -4,8 +4,7 @@ use Rattle.std.proofs.lemmas.Bool.Decides.{nat_tests}
 use Rattle.labels.specs.Sets.{has, passing}
 use Rattle.walk_laws.proofs.Found.{candidates_are, step_found, step_none}
 use Rattle.matroid_laws.specs.Matroids.{Base}
-use Rattle.walk_laws.specs.Settings.{Setting, candidates}
-use Rattle.walk_laws.proofs.Sound.{Sound}
+use Rattle.walk_laws.specs.Settings.{Setting, Sound, candidates}
 use Rattle.walk_laws.specs.Steps.{State, after, exchange_at, step}
 use Rattle.labels.proofs.Passing.{has_passing}
 use Rattle.walk.specs.States.{partners, swappable}

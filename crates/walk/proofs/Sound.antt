@@ -5,7 +5,7 @@ use Rattle.measure.specs.Laws.{GroupLaws}
 use Rattle.matroid.specs.declared.interface.Matroid.{Ghosts as MatroidOf}
 use Rattle.tie_rule.specs.declared.rule.TieRule.{Ghosts as TieRuleOf}
 use Rattle.measure.specs.declared.interface.Measure.{Ghosts as MeasureOf}
-use Rattle.walk_laws.proofs.Sound.{Sound}
+use Rattle.walk_laws.specs.Settings.{Sound}
 use Rattle.walk.specs.States.{setting}
 
 pub sound : {P R M V : Type 0} (p : MatroidOf P) (t : TieRuleOf R) (m : MeasureOf M V) (matroid : P) (measure : M)

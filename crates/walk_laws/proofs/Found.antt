@@ -9,8 +9,7 @@ use Rattle.matroid_laws.specs.Matroids.{Base}
 use Rattle.matroid_laws.proofs.Bases.{base_by_card}
 use Rattle.matroid_laws.proofs.Tests.{base_passes}
 use Rattle.walk_laws.proofs.Views.{Moved, Still, step_view}
-use Rattle.walk_laws.specs.Settings.{Setting, candidates, fits}
-use Rattle.walk_laws.proofs.Sound.{Sound}
+use Rattle.walk_laws.specs.Settings.{Setting, Sound, candidates, fits}
 use Rattle.walk_laws.specs.Steps.{State, after, exchange_at, step}
 use Rattle.labels.proofs.Passing.{passing_same}
 use Rattle.walk_laws.specs.declared.Exchange.{Exchange}

@@ -7,8 +7,7 @@ use Rattle.matroid_laws.specs.Matroids.{Base}
 use Rattle.walk_laws.specs.Law.{Ahead, Leads, Linked, ToCome}
 use Rattle.walk_laws.proofs.Views.{Moved, Still, candidate_tells, none_ahead, none_below, step_view}
 use Rattle.walk_laws.specs.Lives.{Runs, ends, goes}
-use Rattle.walk_laws.specs.Settings.{Setting, candidates}
-use Rattle.walk_laws.proofs.Sound.{Sound}
+use Rattle.walk_laws.specs.Settings.{Setting, Sound, candidates}
 use Rattle.walk_laws.specs.Steps.{State, after, exchange_at, step}
 use Rattle.walk_laws.proofs.Ahead.{ahead_back, ahead_on, not_ahead, swap_exchanges}
 use Rattle.walk_laws.specs.declared.Exchange.{Exchange}

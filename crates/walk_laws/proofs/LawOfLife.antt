@@ -6,8 +6,7 @@ use Rattle.matroid_laws.specs.Matroids.{Base}
 use Rattle.walk_laws.specs.declared.Exchange.{Exchange}
 use Rattle.walk_laws.specs.AlgorithmG.{GState, g_of, g_of_step, g_steps}
 use Rattle.walk_laws.specs.Lives.{Life, advances, begins, calls, lists, sets_of}
-use Rattle.walk_laws.specs.Settings.{Setting}
-use Rattle.walk_laws.proofs.Sound.{Sound}
+use Rattle.walk_laws.specs.Settings.{Setting, Sound}
 use Rattle.walk_laws.specs.Steps.{State, begun, go_on, several, step}
 use Rattle.walk_laws.proofs.Laws.{always_from, whole_from}
 use Rattle.labels.proofs.Card.{ext, within}

@@ -14,8 +14,7 @@ use Rattle.walk_laws.proofs.Future.{Future, chosen_tells, future, leads, moved, 
 use Rattle.walk_laws.proofs.Paths.{Held, held, path_life}
 use Rattle.walk_laws.specs.Lives.{Life, sets_of}
 use Rattle.walk_laws.proofs.Views.{Moved, Still, fits_tells, reach_within, step_view}
-use Rattle.walk_laws.specs.Settings.{Setting, candidates, fits}
-use Rattle.walk_laws.proofs.Sound.{Sound}
+use Rattle.walk_laws.specs.Settings.{Setting, Sound, candidates, fits}
 use Rattle.walk_laws.specs.Steps.{State, after, begin_at, exchange_at, offers, several, step, step_at}
 use Rattle.walk_laws.specs.AlgorithmG.{among, g_of, g_of_step, g_step, g_step_at, unvisited}
 use Rattle.walk_laws.proofs.Lists.{among_passes, among_tells, in_either, in_left, in_right, once_apart, once_left, reordered_length, same_members, stepwise_left}

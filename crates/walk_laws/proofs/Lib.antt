@@ -1,4 +1,3 @@
-pub mod Sound
 mod Ahead
 mod Views
 mod Values

@@ -4,8 +4,7 @@ use Rattle.labels.proofs.Order.{reopened_less}
 use Rattle.matroid_laws.specs.Matroids.{Base}
 use Rattle.walk_laws.specs.Lives.{Call, Life, Runs, advances, begins, calls, lists, looks, sets_of}
 use Rattle.walk_laws.proofs.Views.{Moved}
-use Rattle.walk_laws.specs.Settings.{Setting, candidates, total_of, value_of}
-use Rattle.walk_laws.proofs.Sound.{Sound}
+use Rattle.walk_laws.specs.Settings.{Setting, Sound, candidates, total_of, value_of}
 use Rattle.walk_laws.specs.Steps.{Several, State, begin_at, exchange_at, go_on, several, step}
 use Rattle.walk_laws.proofs.Future.{chosen_tells, move_is, moved, runs_on, stop_same}
 use Rattle.walk_laws.proofs.Values.{total_last, total_single, value_exchange}

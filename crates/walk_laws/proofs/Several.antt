@@ -3,8 +3,7 @@ use Rattle.std.proofs.Common.{◌≡◌, ℕ, zero, suc, ◌-◌, ◌<◌, ◌�
 use native.Mathlib.Nat.{sub-zero, suc-sub-suc}
 use Rattle.walk_laws.specs.Law.{Follows, Inside, Listed, continued}
 use Rattle.walk_laws.specs.Lives.{Runs, ends, goes, sets_of}
-use Rattle.walk_laws.specs.Settings.{Setting}
-use Rattle.walk_laws.proofs.Sound.{Sound}
+use Rattle.walk_laws.specs.Settings.{Setting, Sound}
 use Rattle.walk_laws.specs.Steps.{State, go_on, in_front, several, step}
 use Rattle.walk_laws.proofs.Future.{leads, stop_same}
 use Rattle.walk_laws.specs.declared.Exchange.{Exchange}

@@ -10,8 +10,7 @@ use Rattle.matroid_laws.proofs.Bases.{exchange, exchange_back}
 use Rattle.matroid_laws.proofs.Tests.{base_passes, base_tells}
 use Rattle.walk_laws.specs.Law.{Ahead}
 use Rattle.labels.proofs.Passing.{FirstPassing, first_passing_is, has_passing}
-use Rattle.walk_laws.specs.Settings.{Setting, candidates, fits}
-use Rattle.walk_laws.proofs.Sound.{Sound}
+use Rattle.walk_laws.specs.Settings.{Setting, Sound, candidates, fits}
 use Rattle.walk_laws.specs.Steps.{State, after, exchange_at, offers, step, step_at}
 use Rattle.walk_laws.proofs.Ahead.{below_top, swap_in, swap_out, top_pos}
 

@@ -1,7 +1,9 @@
 -- What a walk over the bases of a matroid is made of: the matroid, a tie rule, a measure; and the words of one exchange.
 use Rattle.std.specs.Prelude.{ℕ, zero, suc, ◌-◌, Bool, cond, ◌&&◌, List, [], ◌∷◌}
 use Rattle.labels.specs.Sets.{has, differs, swap, passing}
-use Rattle.matroid_laws.specs.Matroids.{is_base}
+use Rattle.matroid_laws.specs.Matroids.{IsMatroid, is_base}
+use Rattle.tie_rule.specs.Laws.{TieLaws}
+use Rattle.measure.specs.Laws.{GroupLaws}
 
 -- R: the states of the tie rule; V: the values of the measure
 pub record Setting (R V : Type 0) : Type 0 where
@@ -14,6 +16,12 @@ pub record Setting (R V : Type 0) : Type 0 where
   pub sum : V → V → V
   pub opposite : V → V
   pub worth : ℕ → V
+
+-- all three show their laws
+pub record Sound {R V : Type 0} (w : Setting R V) : Type 0 where
+  pub matroid : IsMatroid w.n w.independent
+  pub ties : TieLaws w.choice w.next
+  pub group : GroupLaws w.zero w.sum w.opposite
 
 -- the sum of the worths of the labels of t among 1..m, upwards from the lowest
 unfoldable pub summed : {V : Type 0} → V → (V → V → V) → (ℕ → V) → ℕ → ℕ → V
