@@ -11,7 +11,7 @@ pub returns-then-row : goal.returns-then-row
 returns-then-row c =
     let s = c.args.survey.now in
     sym (judged_same s.points (rows_of s) (row_of c.narrowed-row.result) (fields_of c.args.f) c.narrowed-row.ensures
-    (sym c.if-not-is-in-range.ensures) c.if-row.true)
+    (sym c.if-not-is_in_range.ensures) c.if-row.true)
 
 pub returns-then-has-pair : goal.returns-then-has-pair
 returns-then-has-pair c =
@@ -23,4 +23,4 @@ pub returns : goal.returns
 returns c =
     let s = c.args.survey.now in
     sym (judged_fine s.points (rows_of s) (row_of c.narrowed-row.result) (fields_of c.args.f) c.narrowed-row.ensures
-    (sym c.if-not-is-in-range.ensures) c.if-row.false (sym c.if-has-pair.ensures))
+    (sym c.if-not-is_in_range.ensures) c.if-row.false (sym c.if-has_pair.ensures))

@@ -21,7 +21,7 @@ returns-in-default c =
 pub returns : goal.returns
 returns c =
     let s = c.args.survey.now in
-    let h = leb-false limit (length (rows_of s)) (sym c.if-is-full.ensures) in
+    let h = leb-false limit (length (rows_of s)) (sym c.if-is_full.ensures) in
     record {
       is = c.judge.ensures ∙ sym (next_formed s.points (rows_of s) c.args.line.now (fields_of c.in-Some.f) h (sym c.in-Some.ensures));
       room = λ e. h;

@@ -21,7 +21,7 @@ pub loop-i-preserved : goal.loop-i-preserved
 loop-i-preserved c =
     let s = c.args.s.now in
     let i = c.loop-i.i in
-    let yes' = sym c.if-not-is-digit.ensures in
+    let yes' = sym c.if-not-is_digit.ensures in
     let b = digit_range (get_or s i 0) yes' in (
       sym (read_on_yes c.loop-i.n s i c.loop-i-test.true yes') ∙ c.loop-i.invariant.0,
       under_more c.loop-i.n i (get_or s i 0 - 48) c.loop-i.invariant.1 (omega arith),

@@ -10,4 +10,4 @@ returns-then-has-minus c =
     ∙ sym (shift_minus c.args.s.now (sym c.if-has-minus.ensures.is))
 
 pub returns : goal.returns
-returns c = c.not-below-zero.ensures ∙ ap plain c.number-2.ensures ∙ sym (shift_plain c.args.s.now (sym c.if-has-minus.ensures.is))
+returns c = c.not_below_zero.ensures ∙ ap plain c.number-2.ensures ∙ sym (shift_plain c.args.s.now (sym c.if-has_minus.ensures.is))

@@ -9,7 +9,7 @@ returns-then-is-same-pair c =
 
 pub loop-i-preserved : goal.loop-i-preserved
 loop-i-preserved c =
-    sym (met_more c.args.self.now c.loop-i.i _ (row_of c.args.row) (omega arith) (sym c.if-is-same-pair.ensures)) ∙ c.loop-i.invariant
+    sym (met_more c.args.self.now c.loop-i.i _ (row_of c.args.row) (omega arith) (sym c.if-is_same_pair.ensures)) ∙ c.loop-i.invariant
 
 pub returns : goal.returns
 returns c = sym (met_end c.args.self.now c.loop-i.i (row_of c.args.row) (omega arith)) ∙ c.loop-i.invariant
