@@ -5,8 +5,8 @@ use Rattle.label_words.proofs.reopened.Goals as goal
 
 pub returns : goal.returns
 returns c =
-    let low = c.full-to-2.ensures ∙ ap (λ (k : ℕ). full (min k 64)) c.saturating-sub.ensures in
+    let low = c.full_to-2.ensures ∙ ap (λ (k : ℕ). full (min k 64)) c.saturating_sub.ensures in
     record {
-      inside = reopened_is c.args.active c.args.label _ _ c.ranges.active.fits c.full-to.ensures low;
-      beyond = reopened_all c.args.active c.args.label _ _ c.ranges.active.fits c.full-to.ensures low;
+      inside = reopened_is c.args.active c.args.label _ _ c.ranges.active.fits c.full_to.ensures low;
+      beyond = reopened_all c.args.active c.args.label _ _ c.ranges.active.fits c.full_to.ensures low;
     }

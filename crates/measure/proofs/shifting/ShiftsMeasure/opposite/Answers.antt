@@ -16,4 +16,4 @@ negated a r f e =
 pub returns : goal.returns
 returns c =
     let a = c.args.a in
-    same_shift _ (shift_opposite a) (negated a.across _ a.wide c.wrapping-neg.ensures) (negated a.along _ a.long c.wrapping-neg-2.ensures)
+    same_shift _ (shift_opposite a) (negated a.across _ a.wide c.wrapping_neg.ensures) (negated a.along _ a.long c.wrapping_neg-2.ensures)
