@@ -1,4 +1,4 @@
-use Rattle.std.proofs.Common.{◌≡◌, ℕ, ◌-◌, ◌≤◌, leb, length, sym, ap, ◌∙◌, arith}
+use Rattle.std.proofs.Common.{ℕ, ◌-◌, ◌≤◌, leb, length, ap, ◌∙◌, arith}
 use Rattle.chain_records.proofs.Frames.{complete_is, short_is}
 use Rattle.chain_records.proofs.framing.is_complete.Goals as goal
 

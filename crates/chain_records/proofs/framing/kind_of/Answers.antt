@@ -1,4 +1,4 @@
-use Rattle.std.proofs.Common.{◌≡◌, ◌<◌, ◌≤◌, length, Some, sym, ap, ◌∙◌, arith}
+use Rattle.std.proofs.Common.{◌≡◌, Some, sym, ap, ◌∙◌, arith}
 use Rattle.chain_lists.specs.Lists.{kind_numbered}
 use Rattle.chain_lists.specs.Faults.{kind_in}
 use Rattle.chain_records.proofs.Frames.{complete_tells, frame_is}
@@ -18,4 +18,4 @@ returns-then-length c =
     let whole = complete_tells xs c.requires in
     let l = sym c.stated-length.ensures ∙ c.if-length.true ∙ c.length.ensures in
     let k : kind_in xs ≡ Some c.in_ok-kind.kind = ap kind_numbered (sym c.kind_number.ensures) ∙ sym c.numbered.ensures ∙ c.in_ok-kind.was in
-    (frame_is xs c.in_ok-kind.kind (λ i. (c.type-inv.rest i).fits) (omega (arith, whole, c.stated-length.ensures)) l k, omega (arith, whole, l))
+    (frame_is xs c.in_ok-kind.kind (λ i. (c.type_inv.rest i).fits) (omega (arith, whole, c.stated-length.ensures)) l k, omega (arith, whole, l))
