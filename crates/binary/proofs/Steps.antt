@@ -7,7 +7,7 @@ use native.Mathlib.Nat.{div-eq_of_lt, lt-div-mul-add}
 use Rattle.std.proofs.lemmas.Bool.{cases_Bool}
 use Rattle.labels.specs.Sets.{has, single, insert, difference, Subset}
 use Rattle.labels.proofs.Member.{has_pos, has_xor, members}
-use Rattle.labels.proofs.Card.{ext, within, within_back}
+use Rattle.labels.proofs.Card.{ext, within_back}
 use Rattle.labels.proofs.Order.{top_less}
 use Rattle.labels.proofs.Words.{leading_is, trailing_is, shl_is}
 use Rattle.binary_laws.specs.Binary.{binary, LinearlyIndependent}

@@ -1,7 +1,7 @@
 -- What is claimed of chain files.
 use Rattle.std.specs.Prelude.{◌≡◌, ℕ, List}
 use Rattle.chain_lists.specs.declared.Spot.{Spot}
-use Rattle.chain_lists.specs.Lists.{ChainList, Lawful, sets_of, file_of, Holds}
+use Rattle.chain_lists.specs.Lists.{ChainList, Lawful, sets_of, Holds}
 use Rattle.chain_lists.specs.Faults.{Fault, Refused}
 
 pub record LawOfFiles : Type 0 where

@@ -1,12 +1,12 @@
 -- The frame of a record, told by its six bytes.
-use Rattle.std.proofs.Common.{◌≡◌, ℕ, zero, suc, ◌+◌, ◌-◌, ◌*◌, ◌<◌, ◌≤◌, Bool, true, false, cond, eqb, leb, List, [], ◌∷◌, ◌++◌, length, get_or, take, drop, Some, None, sym, refl, ap, ◌∙◌, arith}
+use Rattle.std.proofs.Common.{◌≡◌, ℕ, zero, suc, ◌+◌, ◌-◌, ◌*◌, ◌<◌, ◌≤◌, Bool, true, false, cond, eqb, leb, List, [], ◌∷◌, ◌++◌, length, get_or, take, drop, Some, sym, refl, ap, ◌∙◌, arith}
 use Rattle.std.proofs.lemmas.Bool.{eqb-true, eqb-false}
 use Rattle.std.proofs.lemmas.List.{length-drop, length-take-le}
 use Rattle.chain_lists.specs.declared.Kind.{Kind}
 use Rattle.chain_lists.specs.declared.Kind.TheVariants.{Head, Exchange, End, ShiftTotal, LampTotal}
 use Rattle.chain_lists.specs.Lists.{little, framed, kind_number, kind_length, kind_numbered}
 use Rattle.chain_records.specs.Records.{exchanges_in}
-use Rattle.chain_lists.specs.Faults.{Beginning, stated, kind_in, complete, cut_off, misshapen, kind_fault, record_fault}
+use Rattle.chain_lists.specs.Faults.{Beginning, stated, kind_in, complete, cut_off, kind_fault, record_fault}
 
 pub at_end : (xs : List ℕ) (at : ℕ) → at ≤ length xs → eqb at (length xs) ≡ eqb (length (drop at xs)) 0
 at_end xs at h = grind (arith, length-drop)

@@ -25,7 +25,7 @@ impl fmt::Display for Line {
 
 /// Writes each label of `labels`, upwards, after a space; a turn for each, however far apart they are.
 fn put_labels<W: fmt::Write>(f: &mut fmt::Formatter<W>, labels: u64) -> fmt::Result
-    ensures { WritesOnOk write_str_gives f.old result (labels_text labels 64) f.new }
+    ensures { WritesOnOk W.write_str_gives f.old result (labels_text labels 64) f.new }
 {
     let mut rest = labels;
     while rest != 0 {

@@ -3,8 +3,8 @@ use Rattle.std.proofs.lemmas.Bool.{true≢false}
 use Rattle.binary.proofs.Steps.{few_zeros, at_end, grows, falls, goes_on}
 use Rattle.binary.proofs.join.Goals as goal
 
-pub overflow-sub-index-in-loop-left : goal.overflow-sub-index-in-loop-left
-overflow-sub-index-in-loop-left c = few_zeros c.loop-left.left c.loop-left-test.true c.loop-left.invariant.fits
+pub overflow_sub-index-in-loop-left : goal.overflow_sub-index-in-loop-left
+overflow_sub-index-in-loop-left c = few_zeros c.loop-left.left c.loop-left-test.true c.loop-left.invariant.fits
 
 pub returns-then-held-eq0 : goal.returns-then-held-eq0
 returns-then-held-eq0 c = record {

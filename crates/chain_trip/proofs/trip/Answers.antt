@@ -4,10 +4,10 @@ use Rattle.chain_lists.specs.declared.Total.TheVariants.{Lamp}
 use Rattle.chain_trip.proofs.Trips.{refused_trip, taken_trip}
 use Rattle.chain_trip.proofs.trip.Goals as goal
 
-pub returns-in-default-exchange : goal.returns-in-default-exchange
-returns-in-default-exchange c =
+pub returns-in_default-exchange : goal.returns-in_default-exchange
+returns-in_default-exchange c =
     let b = c.in-Ok.ensures.cases in
-    refused_trip c.args.n c.args.start c.args.swap c.args.buffer.now c.in-Ok.begun b.0 b.1 b.2 c.in-default-exchange.ensures.cases.0
+    refused_trip c.args.n c.args.start c.args.swap c.args.buffer.now c.in-Ok.begun b.0 b.1 b.2 c.in_default-exchange.ensures.cases.0
 
 pub returns-then-length-out : goal.returns-then-length-out
 returns-then-length-out c =

@@ -1,4 +1,4 @@
-use Rattle.std.proofs.Common.{◌≡◌, arith}
+use Rattle.std.proofs.Common.{arith}
 use Rattle.label_words.proofs.Held.{swap_is}
 use Rattle.chain_lists.proofs.Lawful.{swap-tells}
 use Rattle.chain_lists.proofs.Swap.after.Goals as goal

@@ -7,4 +7,4 @@ returns c =
     λ b k.
     amid-says b c.args.stage c.args.spot _ c.in-SoFar.is k
     (λ l L st before.
-    end-says l _ c.args.body.now L (c.if-count-spot.false ∙ ap (λ (n : ℕ). n + 1) before) c.requires.0 c.word-at-count.ensures.writes)
+    end-says l _ c.args.body.now L (c.if-count-spot.false ∙ ap (λ (n : ℕ). n + 1) before) c.requires.0 c.word_at-count.ensures.writes)

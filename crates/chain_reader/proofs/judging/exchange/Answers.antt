@@ -16,13 +16,13 @@ returns-then-p c =
       refl,
     )
 
-pub returns-then-not-is-lawful : goal.returns-then-not-is-lawful
-returns-then-not-is-lawful c =
+pub returns-then-not-is_lawful : goal.returns-then-not-is_lawful
+returns-then-not-is_lawful c =
     λ b k. (
       amid-fault b c.args.stage c.args.spot _ c.args.body.now _ c.in-SoFar.is k
           (λ l L st before.
           wrong-exchange-is l c.in-SoFar.p c.args.body.now st c.if-p.false c.if-p-2.false
-          (sym c.is-lawful.ensures ∙ c.if-not-is-lawful.true)),
+          (sym c.is_lawful.ensures ∙ c.if-not-is_lawful.true)),
       refl,
     )
 
@@ -32,4 +32,4 @@ returns c =
     amid-says b c.args.stage c.args.spot _ c.in-SoFar.is k
     (λ l L st before.
     exchange-says l c.in-SoFar.p _ _ c.args.body.now L st c.requires.0 (omega (arith, before, c.requires)) c.if-p.false c.if-p-2.false
-    refl refl (sym c.is-lawful.ensures ∙ c.if-not-is-lawful.false) c.after-present.ensures.lawful)
+    refl refl (sym c.is_lawful.ensures ∙ c.if-not-is_lawful.false) c.after-present.ensures.lawful)

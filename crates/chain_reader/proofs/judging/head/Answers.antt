@@ -7,4 +7,4 @@ pub returns : goal.returns
 returns c =
     λ b k.
     head-says b _ _ c.args.body.now (subst (StageAfter b) c.in-Nothing.is k.stage) c.requires refl
-    c.word-at-start.ensures.writes (sym c.is-lawful-head.ensures ∙ c.if-not-is-lawful-head.false)
+    c.word_at-start.ensures.writes (sym c.is_lawful_head.ensures ∙ c.if-not-is_lawful_head.false)

@@ -6,4 +6,4 @@ returns c =
     λ b k.
     amid-says b c.args.stage c.args.spot _ c.in-SoFar.is k
     (λ l L st before.
-    lamp-says l c.in-SoFar.p _ c.args.body.now L st c.if-p.false c.word-at.type-inv c.requires c.word-at.ensures.writes)
+    lamp-says l c.in-SoFar.p _ c.args.body.now L st c.if-p.false c.word_at.type_inv c.requires c.word_at.ensures.writes)

@@ -6,9 +6,9 @@ use Rattle.chain_reader.proofs.judging.shift_total.Goals as goal
 pub returns : goal.returns
 returns c =
     λ b k.
-    let across = to_z-of_z w64 c.cast-signed-across.result (record { sfits = c.cast-signed-across.type-inv }) ∙ c.cast-signed-across.ensures in
-    let along = to_z-of_z w64 c.cast-signed-along.result (record { sfits = c.cast-signed-along.type-inv }) ∙ c.cast-signed-along.ensures in
+    let across = to_z-of_z w64 c.cast_signed-across.result (record { sfits = c.cast_signed-across.type_inv }) ∙ c.cast_signed-across.ensures in
+    let along = to_z-of_z w64 c.cast_signed-along.result (record { sfits = c.cast_signed-along.type_inv }) ∙ c.cast_signed-along.ensures in
     amid-says b c.args.stage c.args.spot _ c.in-SoFar.is k
     (λ l L st before.
-    Shift-says l c.in-SoFar.p _ _ _ _ c.args.body.now L st c.if-p.false c.word-at.type-inv c.word-at-2.type-inv across along c.requires
-    c.word-at.ensures.writes c.word-at-2.ensures.writes)
+    Shift-says l c.in-SoFar.p _ _ _ _ c.args.body.now L st c.if-p.false c.word_at.type_inv c.word_at-2.type_inv across along c.requires
+    c.word_at.ensures.writes c.word_at-2.ensures.writes)

@@ -8,13 +8,13 @@ use Rattle.chain_reader.specs.Reading.{Finished, Summarises, fault_of, spot_of}
 use Rattle.chain_reader.proofs.Outlines.{entry_long, finish, left_less}
 use Rattle.chain_reader.proofs.summing.read.Goals as goal
 
-pub returns-in-err-part : goal.returns-in-err-part
-returns-in-err-part c =
+pub returns-in_err-part : goal.returns-in_err-part
+returns-in_err-part c =
     let p = err_from_is_err_and c.from-residual.result c.from-residual.ensures.1 in
     let i = c.loop-part.invariant in
-    let e = c.in-err-part.field-0.0 in
+    let e = c.in_err-part.field-0.0 in
     let refused : Refused c.args.file.now (fault_of e) (spot_of e) =
-    subst (λ (f : List ℕ). Refused f (fault_of e) (spot_of e)) i.0 (c.in-err-part.ensures.reads i.1.0 i.1.1).0 in
+    subst (λ (f : List ℕ). Refused f (fault_of e) (spot_of e)) i.0 (c.in_err-part.ensures.reads i.1.0 i.1.1).0 in
     record {
       exactly = rw (p.1, p.2) refused;
       reads-back = λ d holds. rw p.1 (law.not_both c.args.file.now d (fault_of e) (spot_of e) holds refused);
@@ -25,14 +25,14 @@ pub loop-part-smaller : goal.loop-part-smaller
 loop-part-smaller c =
     let i = c.loop-part.invariant in
     let x = c.in-Some.part in
-    let k = MatchOption-at_some _ _ x c.in-Some.is (c.in-ok-part.ensures.reads i.1.0 i.1.1) in
+    let k = MatchOption-at_some _ _ x c.in-Some.is (c.in_ok-part.ensures.reads i.1.0 i.1.1) in
     let long : 0 < length x.record.bytes.now = subst (λ (ys : List ℕ). 0 < length ys) (sym k.2) (entry_long x.entry) in
-    left_less _ _ _ _ _ _ x.record.bytes.now i.1.1.made k.0.made c.in-ok-part.ensures.file k.3 long
+    left_less _ _ _ _ _ _ x.record.bytes.now i.1.1.made k.0.made c.in_ok-part.ensures.file k.3 long
 
 pub returns : goal.returns
 returns c =
     let i = c.loop-part.invariant in
-    let ended = (MatchOption-at_none _ _ c.in-default.is (c.in-ok-part.ensures.reads i.1.0 i.1.1)).0 in
+    let ended = (MatchOption-at_none _ _ c.in_default.is (c.in_ok-part.ensures.reads i.1.0 i.1.1)).0 in
     let held : (l : ChainList) × Holds c.args.file.now l × Summarises c.loop-part.summary l =
     finish _ i.1.0 _ (subst (λ (f : List ℕ). Finished f i.1.0) i.0 ended) i.1.2 in
     record {

@@ -8,4 +8,4 @@ pub returns : goal.returns
 returns c =
     let n = c.args.n in
     let s = c.args.start in
-    ap (λ (q : List ℕ). n ∷ q) (read-eight c.to-le-bytes-s.result [] s c.to-le-bytes-s.ensures ∙ append-nil (little 8 s))
+    ap (λ (q : List ℕ). n ∷ q) (read-eight c.to_le_bytes-s.result [] s c.to_le_bytes-s.ensures ∙ append-nil (little 8 s))

@@ -5,4 +5,4 @@ use Rattle.chain_writer.proofs.putting.put.Goals as goal
 pub returns : goal.returns
 returns c =
     let k : c.args.at + length c.args.bytes.now - c.args.at ≡ length c.args.bytes.now = omega arith in
-    simp (c.copy-from-slice.ensures.after, k, drop-drop)
+    simp (c.copy_from_slice.ensures.after, k, drop-drop)

@@ -15,17 +15,17 @@ returns-then-body-out c =
           let no : ⊥ =
           elim c.then-body-out.branch [
             | then-body-out-via-then-body-out w ↦ omega (arith, w.if-body-out.true)
-            | then-body-out-via-else-body-out+then-not-has-room w ↦ let t = w.if-not-has-room.true in let e = w.has-room.ensures in grind (arith, nat_tests)
+            | then-body-out-via-else-body-out+then-not-has-room w ↦ let t = w.if-not-has_room.true in let e = w.has_room.ensures in grind (arith, nat_tests)
           ] in
           absurd no;
     }
 
 pub returns : goal.returns
 returns c =
-    let b1 : c.to-le-bytes.result ≡ little 4 (kind_length c.args.kind) =
-    c.to-le-bytes.ensures ∙ sym (little_4 c.length.result) ∙ ap (little 4) c.length.ensures in
-    let b2 : c.to-le-bytes-2.result ≡ little 2 (kind_number c.args.kind) =
-    c.to-le-bytes-2.ensures ∙ sym (little_2 c.number.result) ∙ ap (little 2) c.number.ensures in
+    let b1 : c.to_le_bytes.result ≡ little 4 (kind_length c.args.kind) =
+    c.to_le_bytes.ensures ∙ sym (little_4 c.length.result) ∙ ap (little 4) c.length.ensures in
+    let b2 : c.to_le_bytes-2.result ≡ little 2 (kind_number c.args.kind) =
+    c.to_le_bytes-2.ensures ∙ sym (little_2 c.number.result) ∙ ap (little 2) c.number.ensures in
     record {
       fits =
           λ h.

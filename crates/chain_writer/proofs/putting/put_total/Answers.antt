@@ -12,8 +12,8 @@ returns-in-Shift c =
     record {
       fits =
           puts_same _ _ _ _ _ _
-          (ap (framed ShiftTotal) (c.shift-body.ensures ∙ eights-same c.in-Shift.across c.in-Shift.along f.0 f.1) ∙ sym (ap total_written c.in-Shift.is))
-          c.put-record.ensures.fits;
+          (ap (framed ShiftTotal) (c.shift_body.ensures ∙ eights-same c.in-Shift.across c.in-Shift.along f.0 f.1) ∙ sym (ap total_written c.in-Shift.is))
+          c.put_record.ensures.fits;
       whole = search rules;
     }
 
@@ -22,7 +22,7 @@ returns-in-Lamp c =
     record {
       fits =
           puts_same _ _ _ _ _ _
-          (ap (framed LampTotal) (c.to-le-bytes.ensures ∙ sym (little_8 c.in-Lamp.word)) ∙ sym (ap total_written c.in-Lamp.is))
-          c.put-record-in-Lamp.ensures.fits;
+          (ap (framed LampTotal) (c.to_le_bytes.ensures ∙ sym (little_8 c.in-Lamp.word)) ∙ sym (ap total_written c.in-Lamp.is))
+          c.put_record-in-Lamp.ensures.fits;
       whole = search rules;
     }

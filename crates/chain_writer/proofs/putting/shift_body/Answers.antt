@@ -8,6 +8,6 @@ pub returns : goal.returns
 returns c =
     let x : ℕ = of_z w64 (to_z w64 (of_z w64 c.args.across)) in
     let y : ℕ = of_z w64 (to_z w64 (of_z w64 c.args.along)) in
-    read-eight c.to-le-bytes-a.result _ x c.to-le-bytes-a.ensures
-    ∙ ap (λ (q : List ℕ). little 8 x ++ q) (read-eight c.to-le-bytes-b.result [] y c.to-le-bytes-b.ensures ∙ append-nil (little 8 y))
+    read-eight c.to_le_bytes-a.result _ x c.to_le_bytes-a.ensures
+    ∙ ap (λ (q : List ℕ). little 8 x ++ q) (read-eight c.to_le_bytes-b.result [] y c.to_le_bytes-b.ensures ∙ append-nil (little 8 y))
     ∙ eights-same c.args.across c.args.along c.ranges.across c.ranges.along

@@ -13,11 +13,11 @@ returns c =
     let n : ℕ = c.args.n in
     let s : ℕ = c.args.start in
     let out : List ℕ = c.args.out.now in
-    let l : lawful_head n s ≡ true = sym c.if-not-is-lawful-head.ensures in
-    let k : leb 65 (length out) ≡ true = sym c.if-not-has-room.ensures in
+    let l : lawful_head n s ≡ true = sym c.if-not-is_lawful_head.ensures in
+    let k : leb 65 (length out) ≡ true = sym c.if-not-has_room.ensures in
     let room : 65 ≤ length out = leb-true 65 (length out) k in
     let fits : 0 + length (head_written n s) ≤ length out = omega (arith, length_head_written n s) in
-    let p = puts_same 0 _ (head_written n s) out _ _ (ap (framed Head) c.head-body.ensures) c.put-record-at.ensures.fits fits in
+    let p = puts_same 0 _ (head_written n s) out _ _ (ap (framed Head) c.head_body.ensures) c.put_record-at.ensures.fits fits in
     record {
       cases = (
         cond-true (lawful_head n s) _ _ l ∙ cond-true (leb 65 (length out)) _ _ k,

@@ -8,5 +8,5 @@ use Rattle.chain_writer.proofs.writing.finish.Goals as goal
 pub returns : goal.returns
 returns c =
     puts_same _ _ _ _ _ _
-    (ap (framed End) (c.to-le-bytes.ensures ∙ sym (little_8 c.args.count)))
-    c.put-record-length.ensures.fits
+    (ap (framed End) (c.to_le_bytes.ensures ∙ sym (little_8 c.args.count)))
+    c.put_record-length.ensures.fits

@@ -8,7 +8,7 @@ loop-rest-init g c = written_none g.W.Write.write_str_gives c.args.f.now c.args.
 pub loop-rest-preserved : goal.loop-rest-preserved
 loop-rest-preserved g c =
     written_more g.W.Write.write_str_gives c.args.f.now c.args.labels c.loop-rest.rest c.loop-rest.f c.loop-rest.invariant c.loop-rest-test.true c.write.new.self
-    (λ p. c.write.ensures.writes p (ap is_ok c.in-ok-write.was))
+    (λ p. c.write.ensures.writes p (ap is_ok c.in_ok-write.was))
 
 pub loop-rest-smaller : goal.loop-rest-smaller
 loop-rest-smaller g c = rest_less c.loop-rest.rest c.loop-rest.invariant.fits c.loop-rest-test.true

@@ -11,56 +11,56 @@ use Rattle.chain_reader.specs.Reading.{Known, StageAfter, end_of, entry_written,
 use Rattle.chain_reader.proofs.Runs.{refused-here, ended_well, fault_next, framed-fault, framed_some, goes-behind}
 use Rattle.chain_reader.proofs.states.ListReader.next.Goals as goal
 
-pub returns-then-is-empty : goal.returns-then-is-empty
-returns-then-is-empty c =
+pub returns-then-is_empty : goal.returns-then-is_empty
+returns-then-is_empty c =
     record {
       file = refl;
       reads = λ b h. (
         ended_well _ b _ h.lawful (subst (StageAfter b) c.in-Ended.is h.stage) h.made
-            (nothing_left _ (sym c.is-empty.ensures ∙ c.if-is-empty.true)),
+            (nothing_left _ (sym c.is_empty.ensures ∙ c.if-is_empty.true)),
         h,
       );
     }
 
-pub returns-in-err-record : goal.returns-in-err-record
-returns-in-err-record c =
+pub returns-in_err-record : goal.returns-in_err-record
+returns-in_err-record c =
     let p = err_from_is_err_and c.from-residual.result c.from-residual.ensures.1 in
-    let k = c.in-err-record.ensures.cases in
+    let k = c.in_err-record.ensures.cases in
     record {
       file = refl;
       reads = λ b h.
           rw (p.1, p.2)
-          (refused-here _ b _ _ _ h.lawful h.made (k.0 ∙ h.place) (fault_next b _ _ h.stage c.in-default.not-Ended k.1 ∙ k.2 b), h);
+          (refused-here _ b _ _ _ h.lawful h.made (k.0 ∙ h.place) (fault_next b _ _ h.stage c.in_default.not-Ended k.1 ∙ k.2 b), h);
     }
 
-pub returns-in-err-step : goal.returns-in-err-step
-returns-in-err-step c =
-    let p = err_from_is_err_and c.from-residual-in-err-step.result c.from-residual-in-err-step.ensures.1 in
+pub returns-in_err-step : goal.returns-in_err-step
+returns-in_err-step c =
+    let p = err_from_is_err_and c.from-residual-in_err-step.result c.from-residual-in_err-step.ensures.1 in
     let x = c.in-Some.record in
-    let k = MatchOption-at_some _ _ x c.in-Some.is c.in-ok-record.ensures.cases in
+    let k = MatchOption-at_some _ _ x c.in-Some.is c.in_ok-record.ensures.cases in
     record {
       file = refl;
       reads = λ b h.
           let at : x.spot ≡ end_of b = k.0 ∙ h.place in
           let known : Known b c.args.self.now.stage x.spot = record { lawful = h.lawful; stage = h.stage; before = ap (λ (q : Spot). q.before) at } in
-          let judged = c.in-err-step.ensures b known in
+          let judged = c.in_err-step.ensures b known in
           let rest : left_of c.args.self.now.records ≡ framed x.kind x.body.now ++ left_of c.next.new.self =
           k.4 ∙ ap (λ (ys : List ℕ). ys ++ left_of c.next.new.self) k.2 in
-          let fault = fault_next b _ _ h.stage c.in-default.not-Ended (framed_some _ _ _ _ rest) ∙ framed-fault b x.kind x.body.now _ _ k.3 rest ∙ judged.0 in
+          let fault = fault_next b _ _ h.stage c.in_default.not-Ended (framed_some _ _ _ _ rest) ∙ framed-fault b x.kind x.body.now _ _ k.3 rest ∙ judged.0 in
           rw (p.1, p.2) (refused-here _ b _ _ _ h.lawful h.made (judged.1 ∙ at) fault, h);
     }
 
 pub returns : goal.returns
 returns c =
     let x = c.in-Some.record in
-    let k = MatchOption-at_some _ _ x c.in-Some.is c.in-ok-record.ensures.cases in
+    let k = MatchOption-at_some _ _ x c.in-Some.is c.in_ok-record.ensures.cases in
     record {
-      file = c.in-ok-record.ensures.file;
+      file = c.in_ok-record.ensures.file;
       reads = λ b h.
           let at : x.spot ≡ end_of b = k.0 ∙ h.place in
           let known : Known b c.args.self.now.stage x.spot = record { lawful = h.lawful; stage = h.stage; before = ap (λ (q : Spot). q.before) at } in
-          let says = c.in-ok-step.ensures b known in
-          let e = c.in-ok-step.step.entry in
+          let says = c.in_ok-step.ensures b known in
+          let e = c.in_ok-step.step.entry in
           let bytes : x.bytes.now ≡ entry_written e = k.2 ∙ says.bytes in
           let rest : left_of c.args.self.now.records ≡ entry_written e ++ left_of c.next.new.self =
           k.4 ∙ ap (λ (ys : List ℕ). ys ++ left_of c.next.new.self) bytes in
@@ -72,7 +72,7 @@ returns c =
           says.grown ∙ ap (λ (ys : List ℕ). bytes_of b ++ ys) (sym says.bytes) in (
             record {
               lawful = says.lawful;
-              made = c.in-ok-record.ensures.file ∙ h.made ∙ grown;
+              made = c.in_ok-record.ensures.file ∙ h.made ∙ grown;
               place = k.5
                   ∙ goes-behind b (extended b e) x.kind x.body.now _ k.3 whole says.swaps h.place;
               stage = says.stage;

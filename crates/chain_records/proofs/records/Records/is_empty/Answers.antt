@@ -1,5 +1,3 @@
-use Rattle.std.proofs.Common.{length, arith}
-use Rattle.std.proofs.lemmas.List.{length-drop}
 use Rattle.chain_records.proofs.Frames.{at_end}
 use Rattle.chain_records.proofs.records.Records.is_empty.Goals as goal
 

@@ -1,4 +1,4 @@
-use Rattle.std.proofs.Common.{◌≡◌, ℕ, ◌+◌, ◌-◌, ◌^◌, ◌<◌, ◌≤◌, Bool, false, List, ◌++◌, length, take, drop, sym, refl, ap, ◌∙◌, arith, rules}
+use Rattle.std.proofs.Common.{◌≡◌, ℕ, ◌+◌, ◌-◌, ◌^◌, ◌<◌, ◌≤◌, false, List, ◌++◌, length, take, drop, sym, refl, ap, ◌∙◌, arith, rules}
 use Rattle.std.proofs.lemmas.List.{length-drop, take_rest, drop-drop, take-append-drop}
 use Rattle.chain_lists.specs.declared.Spot.{Spot}
 use Rattle.chain_lists.specs.Lists.{kind_length}
@@ -7,21 +7,21 @@ use Rattle.chain_records.specs.Records.{left_of}
 use Rattle.chain_records.proofs.Frames.{nothing_left, some_left, cut_fault, Cut-record}
 use Rattle.chain_records.proofs.records.Records.next.Goals as goal
 
-pub returns-then-is-empty : goal.returns-then-is-empty
-returns-then-is-empty c = record { file = refl; cases = (nothing_left _ (sym c.is-empty.ensures ∙ c.if-is-empty.true), refl) }
+pub returns-then-is_empty : goal.returns-then-is_empty
+returns-then-is_empty c = record { file = refl; cases = (nothing_left _ (sym c.is_empty.ensures ∙ c.if-is_empty.true), refl) }
 
-pub returns-then-not-is-complete : goal.returns-then-not-is-complete
-returns-then-not-is-complete c =
+pub returns-then-not-is_complete : goal.returns-then-not-is_complete
+returns-then-not-is_complete c =
     let s = c.args.self.now in
     let e : take (length s.file.now - s.at) (drop s.at s.file.now) ≡ left_of s = take_rest s.file.now s.at in
-    let f : complete (left_of s) ≡ false = sym (ap complete e) ∙ sym c.is-complete.ensures ∙ c.if-not-is-complete.true in
-    record { file = refl; cases = (c.spot-spot.ensures, some_left _ c.is-empty.ensures c.if-is-empty.false, λ b. cut_fault b _ f, refl) }
+    let f : complete (left_of s) ≡ false = sym (ap complete e) ∙ sym c.is_complete.ensures ∙ c.if-not-is_complete.true in
+    record { file = refl; cases = (c.spot-spot.ensures, some_left _ c.is_empty.ensures c.if-is_empty.false, λ b. cut_fault b _ f, refl) }
 
-pub returns-in-default : goal.returns-in-default
-returns-in-default c =
+pub returns-in_default : goal.returns-in_default
+returns-in_default c =
     let s = c.args.self.now in
     let e : take (length s.file.now - s.at) (drop s.at s.file.now) ≡ left_of s = take_rest s.file.now s.at in
-    record { file = refl; cases = (c.spot-spot.ensures, some_left _ c.is-empty.ensures c.if-is-empty.false, λ b. sym (ap (record_fault b) e) ∙ c.in-default.ensures b, refl) }
+    record { file = refl; cases = (c.spot-spot.ensures, some_left _ c.is_empty.ensures c.if-is_empty.false, λ b. sym (ap (record_fault b) e) ∙ c.in_default.ensures b, refl) }
 
 pub pass-requires : goal.pass-requires
 pass-requires c =

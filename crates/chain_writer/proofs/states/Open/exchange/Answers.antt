@@ -14,12 +14,12 @@ returns c =
     let s = c.args.self.now in
     let x : Swap = c.args.swap in
     let out : List ℕ = s.out.now in
-    let l : lawful_swap s.n s.present x ≡ true = sym c.if-not-is-lawful.ensures in
-    let k : leb (s.at + 58) (length out) ≡ true = sym c.if-not-has-room-for-swap.ensures in
+    let l : lawful_swap s.n s.present x ≡ true = sym c.if-not-is_lawful.ensures in
+    let k : leb (s.at + 58) (length out) ≡ true = sym c.if-not-has_room_for_swap.ensures in
     let room : s.at + 58 ≤ length out = leb-true (s.at + 58) (length out) k in
     let few : length out < 2 ^ 64 = omega arith in
     let fits : s.at + length (swap_written x) ≤ length out = omega (arith, length_swap_written x) in
-    let p = c.put-record-self.ensures.fits fits in
+    let p = c.put_record-self.ensures.fits fits in
     record {
       cases = (cond-true (lawful_swap s.n s.present x) _ _ l ∙ cond-true (leb (s.at + 58) (length out)) _ _ k, p.1);
       labels = refl;

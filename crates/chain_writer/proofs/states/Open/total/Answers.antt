@@ -12,7 +12,7 @@ returns c =
     let s = c.args.self in
     let t : Total = c.args.total in
     let new : stands (total_kind t) d.totals ≡ false = ap (stands (total_kind t)) h.no_totals in
-    let p = totalled s.out.now _ s.at s.count _ d t h.holding new c.put-total-at.ensures.whole c.put-total-at.ensures.fits in
+    let p = totalled s.out.now _ s.at s.count _ d t h.holding new c.put_total-at.ensures.whole c.put_total-at.ensures.fits in
     let flags
     : (c.match-total.shift.0 ≡ stands ShiftTotal (d.totals ++ t ∷ [])) × (c.match-total.shift.1 ≡ stands LampTotal (d.totals ++ t ∷ [])) =
     elim c.match-total.branch [

@@ -10,7 +10,7 @@ returns-in-Shift c =
     let s = c.args.self.now in
     let t : Total = c.args.total in
     let new : false ≡ has_total s t = c.if-has.ensures in
-    let put = c.put-total-self.ensures in
+    let put = c.put_total-self.ensures in
     record {
       cases = cond-false (has_total s t) _ _ (sym new);
       counted = refl;
@@ -27,7 +27,7 @@ returns-in-Lamp c =
     let s = c.args.self.now in
     let t : Total = c.args.total in
     let new : false ≡ has_total s t = c.if-has.ensures in
-    let put = c.put-total-self.ensures in
+    let put = c.put_total-self.ensures in
     record {
       cases = cond-false (has_total s t) _ _ (sym new);
       counted = refl;

@@ -5,19 +5,19 @@ use Rattle.graphic.specs.Graphs.{admitted}
 use Rattle.graphic.specs.GraphsLemmas.{graph_length, room, one_more}
 use Rattle.graphic.proofs.graph.Graphic.add.Goals as goal
 
-pub returns-in-err-admit : goal.returns-in-err-admit
-returns-in-err-admit c =
-    let p = err_from_is_err_and c.from-residual.result c.from-residual.ensures.1 in
+pub returns-in_err-admit : goal.returns-in_err-admit
+returns-in_err-admit c =
+    let p = err_from_is_err_and c.from_residual.result c.from_residual.ensures.1 in
     let length = ap (λ (n : ℕ). admitted c.args.self.now.points n c.args.a c.args.b) (sym (graph_length c.args.self.now)) in
     rw (p.1, p.2) (record {
-      answer = sym c.in-err-admit.was ∙ c.admit.ensures ∙ length;
+      answer = sym c.in_err-admit.was ∙ c.admit.ensures ∙ length;
       added = λ z. absurd (true≢false (sym z));
       refused = λ _. refl;
     })
 
 pub returns : goal.returns
 returns c =
-    let admitted-is = sym c.in-ok-admit.was ∙ c.admit.ensures in
+    let admitted-is = sym c.in_ok-admit.was ∙ c.admit.ensures in
     let few = room c.args.self.now.points c.args.self.now.size c.args.a c.args.b admitted-is in
     let length = ap (λ (n : ℕ). admitted c.args.self.now.points n c.args.a c.args.b) (sym (graph_length c.args.self.now)) in
     record {

@@ -4,5 +4,5 @@ use Rattle.lines.proofs.line.LineDisplay.fmt.Goals as goal
 
 pub returns-clause-writes : goal.returns-clause-writes
 returns-clause-writes g c = λ p ok.
-    let x = c.write.ensures.writes p (ap is_ok c.in-ok-write.was) in
-    has_written_append g.W.Write.write_str_gives _ _ _ _ _ x (c.put-labels.ensures x.plain ok)
+    let x = c.write.ensures.writes p (ap is_ok c.in_ok-write.was) in
+    has_written_append g.W.Write.write_str_gives _ _ _ _ _ x (c.put_labels.ensures x.plain ok)

@@ -2,13 +2,13 @@ use Rattle.std.proofs.Common.{refl, ◌∙◌, arith, length-set}
 use Rattle.survey.proofs.Kept.{kept_length, kept_push}
 use Rattle.survey.proofs.table.Survey.push.Goals as goal
 
-pub overflow-add-self : goal.overflow-add-self
-overflow-add-self c = omega (arith, kept_length c.args.self.now)
+pub overflow_add-self : goal.overflow_add-self
+overflow_add-self c = omega (arith, kept_length c.args.self.now)
 
-pub invariant-of-self : goal.invariant-of-self
-invariant-of-self c =
+pub invariant_of-self : goal.invariant_of-self
+invariant_of-self c =
     let s = c.args.self.now in
-    (omega (arith, kept_length s), (length-set s.rows c.len-n.result c.args.row ∙ s.whole, tt))
+    record { fits = omega (arith, kept_length s); whole = length-set s.rows c.len-n.result c.args.row ∙ s.whole }
 
 pub returns : goal.returns
 returns c =
