@@ -1,6 +1,6 @@
 -- What is written after a lawful beginning is read as it was meant.
 use Rattle.std.proofs.Common.{◌≡◌, ℕ, ◌^◌, ◌<◌, ◌≤◌, true, false, not, List, [], ◌∷◌, ◌++◌, ℤ, pos, negsuc, refl, ap, ◌∙◌, arith, pow_mono, w64, SFits, to_z, of_z}
-use Rattle.std.specs.List.{flat_map, AllByRecursion as All}
+use Rattle.std.specs.List.{flat_map, AllByRecursion}
 use Rattle.std.proofs.lemmas.Bool.{eq-eqb, cond-true, and_parts, not-true}
 use Rattle.std.proofs.lemmas.Bool.Decides.{nat_tests}
 use Rattle.std.proofs.lemmas.List.{append-nil, append_assoc, length-append, take_at, drop_at}
@@ -86,7 +86,7 @@ stands_earlier (t ∷ ts) u us h =
 
 -- totals one after the other; those before them are ts
 module _ {v : Verdict} (n s : ℕ) (xs : List Swap) (more : List ℕ) where
-  read_totals : (ts us : List Total) → once (ts ++ us) ≡ true → All Fitting us → Scan (so_far (record { n = n; start = s; swaps = xs; totals = ts ++ us })) more v
+  read_totals : (ts us : List Total) → once (ts ++ us) ≡ true → AllByRecursion Fitting us → Scan (so_far (record { n = n; start = s; swaps = xs; totals = ts ++ us })) more v
       → Scan (so_far (record { n = n; start = s; swaps = xs; totals = ts })) (flat_map total_written us ++ more) v
   read_totals ts [] h f r = rw (append-nil ts) at r
   read_totals ts (u ∷ us) h f r =

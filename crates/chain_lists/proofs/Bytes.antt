@@ -1,6 +1,6 @@
 -- Numbers as bytes, and records cut out of what is left of a file.
 use Rattle.std.proofs.Common.{◌≡◌, ℕ, zero, suc, ◌+◌, ◌-◌, ◌*◌, ◌/◌, ◌%◌, ◌^◌, ◌<◌, true, List, [], ◌∷◌, ◌++◌, length, take, drop, Some, refl, ap, ◌∙◌, arith}
-use Rattle.std.specs.List.{AllByRecursion as All}
+use Rattle.std.specs.List.{AllByRecursion}
 use Rattle.std.proofs.lemmas.List.{length-append, take_at, drop_at}
 use Rattle.std.proofs.lemmas.Bool.Decides.{nat_tests}
 use Rattle.chain_lists.specs.declared.Kind.{Kind}
@@ -23,7 +23,7 @@ number_little (suc k) x h = let e = number_little k (x / 256) (omega arith) in o
 pub word_little : (x : ℕ) → x < 2 ^ 64 → number_in (little 8 x) ≡ x
 word_little x h = number_little 8 x h
 
-pub little_number : (bs : List ℕ) → All (λ b. b < 256) bs → little (length bs) (number_in bs) ≡ bs
+pub little_number : (bs : List ℕ) → AllByRecursion (λ b. b < 256) bs → little (length bs) (number_in bs) ≡ bs
 unfolding little
 little_number [] h = refl
 little_number (b ∷ bs) h =

@@ -2,7 +2,7 @@
 use Rattle.std.specs.Prelude.{◌≡◌, ℕ, zero, suc, ◌+◌, ◌/◌, ◌%◌, ◌^◌, ◌<◌, Bool, true, false, cond, not, ◌&&◌, List, [], ◌∷◌, ◌++◌, length, Some, None, Option, FitsSigned, ◌==◌, nat_le, nat_lt}
 use Rattle.std.specs.Int.{w64}
 use Rattle.std.proofs.Common.{of_z}
-use Rattle.std.specs.List.{flat_map, AllByRecursion as All}
+use Rattle.std.specs.List.{flat_map, AllByRecursion}
 use Rattle.labels.specs.Sets.{limit, differs, has, swap}
 use Rattle.chain_lists.specs.declared.Kind.{Kind}
 use Rattle.chain_lists.specs.declared.Kind.TheVariants.{Head, Exchange, End, ShiftTotal, LampTotal}
@@ -126,7 +126,7 @@ pub record Lawful (c : ChainList) : Type 0 where
   pub heads : lawful_head c.n c.start ≡ true
   pub leads : lawful_swaps c.n c.start c.swaps ≡ true
   pub singly : once c.totals ≡ true
-  pub fitting : All Fitting c.totals
+  pub fitting : AllByRecursion Fitting c.totals
   -- the count has 64 bits too
   pub counted : count_of c < 2 ^ 64
 

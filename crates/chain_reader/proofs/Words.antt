@@ -1,6 +1,6 @@
 -- Eight bytes of a body as a number.
 use Rattle.std.proofs.Common.{◌≡◌, ℕ, ◌+◌, ◌*◌, ◌<◌, ◌≤◌, List, [], ◌∷◌, length, get_or, take, drop, sym, refl, ap, ◌∙◌, arith}
-use Rattle.std.specs.List.{AllByRecursion as All}
+use Rattle.std.specs.List.{AllByRecursion}
 use Rattle.std.proofs.lemmas.List.{get_or-drop, length-drop, length-take-le}
 use Rattle.std.proofs.ByRecursion.{All-from_get_or, All-take, All-drop}
 use Rattle.chain_lists.specs.Lists.{little}
@@ -39,5 +39,5 @@ pub word-writes
     → little 8 r ≡ take 8 (drop i body)
 word-writes body i r l bytes e =
     let long : length (take 8 (drop i body)) ≡ 8 = length-take-le 8 (drop i body) (omega (arith, length-drop i body)) in
-    let each : All (λ b. b < 256) (take 8 (drop i body)) = All-take _ 8 _ (All-drop _ i body (All-from_get_or _ body 0 (λ j h. bytes j))) in
+    let each : AllByRecursion (λ b. b < 256) (take 8 (drop i body)) = All-take _ 8 _ (All-drop _ i body (All-from_get_or _ body 0 (λ j h. bytes j))) in
     ap (little 8) e ∙ ap (λ (k : ℕ). little k (number_in (take 8 (drop i body)))) (sym long) ∙ little_number _ each

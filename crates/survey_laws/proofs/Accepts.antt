@@ -1,6 +1,6 @@
 -- The law of the check: it accepts exactly the written forms of lawful sheets, each as the sheet that was written.
 use Rattle.std.proofs.Common.{◌≡◌, ℕ, ◌+◌, ◌≤◌, Bool, true, false, cond, List, [], ◌∷◌, ◌++◌, map, length, Some, None, Ok, Err, decimal, Option, Result, sym, refl, ap, ◌∙◌, subst, inl, inr, arith, length-append}
-use Rattle.std.specs.List.{AllByRecursion as All}
+use Rattle.std.specs.List.{AllByRecursion}
 use Rattle.std.proofs.lemmas.Bool.{true≢false}
 use Rattle.std.proofs.lemmas.Bool.Decides.{nat_tests}
 use Rattle.std.proofs.lemmas.List.{append-nil, append_assoc, length_push}
@@ -60,7 +60,7 @@ read_rows_written p done (r ∷ rs) h F =
 
 -- ---- that they come one by one, and that all together are lawful
 
-all_middle : {X : Type 0} (P : X → Type 0) (xs : List X) (x : X) (ys : List X) → All P (xs ++ x ∷ ys) → P x
+all_middle : {X : Type 0} (P : X → Type 0) (xs : List X) (x : X) (ys : List X) → AllByRecursion P (xs ++ x ∷ ys) → P x
 all_middle P [] x ys h = h.0
 all_middle P (z ∷ xs) x ys h = all_middle P xs x ys h.1
 
@@ -75,7 +75,7 @@ once_push (q ∷ xs) r o u = (All-push (λ x. SamePair q x → ⊥) xs r o.0 u.0
 -- what is asked of all rows together
 pub record Whole (p : ℕ) (rs : List SurveyRow) : Type 0 where
   pub few : length rs ≤ limit
-  pub each : All (LawfulRow p) rs
+  pub each : AllByRecursion (LawfulRow p) rs
   pub once : Once rs
 
 whole_fits : (p : ℕ) (done rs : List SurveyRow) → Whole p (done ++ rs) → Fit p done rs
@@ -164,7 +164,7 @@ accepts text s e = go (lines text) (ended_lines text) e
     go (l ∷ ls) A e = first l ls A (first_line l) refl e
 
 -- the lines of a lawful sheet
-sheet_lines : (s : Sheet) → Lawful s → All Line (decimal s.points ∷ map row_written s.rows)
+sheet_lines : (s : Sheet) → Lawful s → AllByRecursion Line (decimal s.points ∷ map row_written s.rows)
 sheet_lines s L = (
   (free_decimal line_feed s.points (omega arith) (omega arith), decimal_nonempty s.points (omega arith)),
   All-map Line row_written s.rows (All-weaker (LawfulRow s.points) (λ r. Line (row_written r)) (λ r l. row_line r (numbered s.points r L.few_points l)) s.rows L.each_row),

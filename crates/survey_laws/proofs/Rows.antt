@@ -1,7 +1,7 @@
 -- What the check of one row takes: exactly the written rows that are lawful and new.
 use Rattle.std.proofs.Common.{◌≡◌, ℕ, ◌<◌, ◌≤◌, Bool, true, false, cond, eqb, leb, List, [], ◌∷◌, ◌++◌, length, ℤ, Some, None, Ok, Err, decimal, Option, sym, refl, ap, ◌∙◌, subst, inl, inr, arith, length-append, length-take}
 use Rattle.std.specs.Fmt.{signed_decimal}
-use Rattle.std.specs.List.{AllByRecursion as All}
+use Rattle.std.specs.List.{AllByRecursion}
 use Rattle.std.proofs.lemmas.Bool.Decides.{nat_tests}
 use Rattle.std.proofs.lemmas.Bool.{lt-leb, leb-true, leb-false, eqb-true, eqb-false, ne_eqb, true≢false}
 use Rattle.std.proofs.ByRecursion.{All-append}
@@ -96,7 +96,7 @@ row_line r N = (
 
 -- the pair of r is not that of a row of qs
 abbrev pub Unmet : List SurveyRow → SurveyRow → Type 0
-Unmet qs r = All (λ q. SamePair q r → ⊥) qs
+Unmet qs r = AllByRecursion (λ q. SamePair q r → ⊥) qs
 
 same_pair_tells : (q r : SurveyRow) → same_pair q r ≡ true → SamePair q r
 same_pair_tells q r e = grind (arith, nat_tests)

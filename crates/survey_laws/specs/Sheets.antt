@@ -2,7 +2,7 @@
 -- When it is lawful, and the text that it is written as.
 use Rattle.std.specs.Prelude.{◌≡◌, ℕ, ◌^◌, ◌<◌, ◌≤◌, ◌⊎◌, List, [], ◌∷◌, ◌++◌, map, length, ℤ, decimal, unsigned_abs}
 use Rattle.std.specs.Fmt.{signed_decimal}
-use Rattle.std.specs.List.{flat_map, AllByRecursion as All}
+use Rattle.std.specs.List.{flat_map, AllByRecursion}
 use Rattle.labels.specs.Sets.{limit}
 pub use Rattle.entry.specs.Limits.{most_points}
 
@@ -54,7 +54,7 @@ Met (q ∷ qs) r = SamePair q r ⊎ Met qs r
 -- no pair of points stands again in a later row
 abbrev pub Once : List SurveyRow → Type 0
 Once [] = Unit {0}
-Once (q ∷ rs) = All (λ r. SamePair q r → ⊥) rs × Once rs
+Once (q ∷ rs) = AllByRecursion (λ r. SamePair q r → ⊥) rs × Once rs
 
 -- a row that can stand in a survey of p points
 pub record LawfulRow (p : ℕ) (r : SurveyRow) : Type 0 where
@@ -66,7 +66,7 @@ pub record Lawful (s : Sheet) : Type 0 where
   pub some_points : 1 ≤ s.points
   pub few_points : s.points ≤ most_points
   pub few_rows : length s.rows ≤ limit
-  pub each_row : All (LawfulRow s.points) s.rows
+  pub each_row : AllByRecursion (LawfulRow s.points) s.rows
   pub once : Once s.rows
 
 -- ---- how it is written

@@ -4,7 +4,7 @@ use Rattle.chain_lists.specs.Lists.{kind_length, kind_number, little}
 use Rattle.chain_lists.proofs.Bytes.{length_framed, little_2, little_4}
 use Rattle.chain_writer.proofs.Splice.{put-framed}
 use Rattle.chain_writer.proofs.putting.put_record.Goals as goal
-use Rattle.chain_writer.proofs.putting.put_record.Goals.{then-body-out-via-then-body-out, then-body-out-via-else-body-out+then-not-has-room}
+use Rattle.chain_writer.proofs.putting.put_record.Goals.{then-body-out-via-then-body-out, then-body-out-via-else-body-out+then-not-has_room}
 
 pub returns-then-body-out : goal.returns-then-body-out
 returns-then-body-out c =
@@ -15,7 +15,7 @@ returns-then-body-out c =
           let no : ⊥ =
           elim c.then-body-out.branch [
             | then-body-out-via-then-body-out w ↦ omega (arith, w.if-body-out.true)
-            | then-body-out-via-else-body-out+then-not-has-room w ↦ let t = w.if-not-has_room.true in let e = w.has_room.ensures in grind (arith, nat_tests)
+            | then-body-out-via-else-body-out+then-not-has_room w ↦ let t = w.if-not-has_room.true in let e = w.has_room.ensures in grind (arith, nat_tests)
           ] in
           absurd no;
     }
