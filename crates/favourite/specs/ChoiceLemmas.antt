@@ -1,6 +1,5 @@
 -- The favourite and the closest keep to the law of tie rules.
 use Rattle.std.specs.Prelude.{◌≡◌, ℕ, ◌<◌, true, false}
-use Rattle.std.proofs.Common.{sym, ◌∙◌}
 use Rattle.std.proofs.lemmas.Bool.{and_parts, both_ways, cond_both, ltb-true}
 use Rattle.labels.specs.Sets.{has, highest_below}
 use Rattle.labels.proofs.Passing.{highest_below_is, highest_below_none}
