@@ -6,7 +6,6 @@ use Rattle.labels.proofs.Member.{has_pos, has_none, has_xor, members}
 use Rattle.labels.proofs.Card.{ext, within, within_back, card_zero, card_none, card_remove, some_by_card}
 use Rattle.labels.proofs.Find.{find}
 use Rattle.binary_laws.specs.Binary.{xor_sum}
-use Rattle.binary_laws.specs.Elimination.{pivot}
 use Rattle.binary_laws.proofs.Basics.{fst_of, snd_of, insert_subset, insert_some, subset_of_remove, out_of_remove, none_of, has_cond, xor_none}
 use Rattle.binary_laws.proofs.Sums.{xor_sum_none, xor_sum_insert}
 

@@ -79,10 +79,11 @@ fn write_all<W: Write>(out: &mut W, walk: &mut SurveyWalk) -> io::Result<()> {
 fn run(rt: &HostRuntime) -> anyhow::Result<()> {
     let mut buffer = [0u8; MOST_INPUT];
     let n = take_in(rt, &mut buffer)?;
+    // A walk cannot be let go, and want of memory is met before there is one.
+    let mut out = BufWriter::new(rt.alloc(), rt.stdout())?;
     match walk_of(&buffer[0..n]) {
         Ok(begun) => {
             let mut walk = begun;
-            let mut out = BufWriter::new(rt.alloc(), rt.stdout())?;
             let written = write_all(&mut out, &mut walk);
             let Parts {
                 matroid: _,

@@ -1,7 +1,7 @@
 -- The table passes its test, and a case that passes holds.
-use Rattle.std.proofs.Common.{◌≡◌, ℕ, Bool, true, ◌&&◌, eqb, List, [], ◌∷◌, refl, ap, ◌∙◌, ap₂, arith}
+use Rattle.std.proofs.Common.{◌≡◌, ℕ, Bool, true, ◌&&◌, eqb, List, [], ◌∷◌, refl, ap₂, arith}
 use lib.Count.{ones, ones_in}
-use Rattle.std.specs.List.{AllByRecursion as All}
+use Rattle.std.specs.List.{AllByRecursion}
 use Rattle.std.proofs.lemmas.Bool.{eqb-true, true≢false}
 use Rattle.labels.specs.Sets.{has, bit, single, passing, first_passing, highest_below}
 use Rattle.labels.specs.Families.{numbers_below}
@@ -40,7 +40,7 @@ test_tells (lists rig choice offered opened expected) h = lists_tell _ _ _ _ _ h
 test_tells (starts rig offered base) h = eqb-true _ _ h
 test_tells (has_bases rig expected) h = same_tells _ _ h
 
-each_holds : (cs : List Case) → all_pass cs ≡ true → All Holds cs
+each_holds : (cs : List Case) → all_pass cs ≡ true → AllByRecursion Holds cs
 each_holds [] h = tt
 each_holds (c ∷ cs) h = (test_tells c (first_of (test c) (all_pass cs) h), each_holds cs (second_of (test c) (all_pass cs) h))
 

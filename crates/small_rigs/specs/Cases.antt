@@ -6,7 +6,7 @@ use Rattle.matroid_laws.specs.Greedy.{start}
 use Rattle.walk_laws.specs.declared.Stop.{Stop}
 use Rattle.walk_laws.specs.declared.Stop.TheVariants.{Full, Finished}
 use Rattle.walk_laws.specs.Settings.{Setting}
-use Rattle.walk_laws.specs.Steps.{State, Several, begun, several}
+use Rattle.walk_laws.specs.Steps.{Several, begun, several}
 use Rattle.walk_laws.specs.Lives.{sets_of}
 
 -- a matroid on 1..n

@@ -1,6 +1,6 @@
 -- The small rigs, one table.
 use Rattle.std.specs.Prelude.{ℕ, zero, suc, List, [], ◌∷◌, length}
-use Rattle.std.specs.List.{AllByRecursion as All}
+use Rattle.std.specs.List.{AllByRecursion}
 use Rattle.labels.specs.Sets.{highest_below}
 use Rattle.tie_rule.specs.Candidates.{lowest_below}
 use Rattle.binary_laws.specs.Binary.{binary}
@@ -79,4 +79,4 @@ table =
 
 -- every case of the table holds
 abbrev pub SmallRigs : Type 0
-SmallRigs = All Holds table
+SmallRigs = AllByRecursion Holds table

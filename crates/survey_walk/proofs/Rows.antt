@@ -1,6 +1,6 @@
 -- Rows of a survey taken one by one.
 use Rattle.std.proofs.Common.{◌≡◌, ℕ, zero, suc, ◌+◌, ◌≤◌, List, [], ◌∷◌, ◌++◌, map, length, take, Some, None, Option, sym, refl, ap, ◌∙◌, subst, add-one, arith}
-use Rattle.std.specs.List.{slice_get, AllByRecursion as All}
+use Rattle.std.specs.List.{slice_get, AllByRecursion}
 
 no_none : {A : Type 0} (x : A) → ◌≡◌ {A = Option A} None (Some x) → ⊥
 no_none x p = let z : ◌≡◌ {A = ℕ} 0 1 = cc in omega arith
@@ -31,7 +31,7 @@ nth_none [] i h = omega arith
 nth_none (y ∷ ys) zero h = absurd (no_none y h)
 nth_none (y ∷ ys) (suc i) h = let l = nth_none ys i h in omega arith
 
-pub all_nth : {A : Type 0} (P : A → Type 0) (xs : List A) (i : ℕ) (x : A) → Some x ≡ slice_get xs i → All P xs → P x
+pub all_nth : {A : Type 0} (P : A → Type 0) (xs : List A) (i : ℕ) (x : A) → Some x ≡ slice_get xs i → AllByRecursion P xs → P x
 all_nth P [] i x h a = absurd (no_none x (sym h))
 all_nth P (y ∷ ys) zero x h a = subst P (sym (same_some x y h)) a.0
 all_nth P (y ∷ ys) (suc i) x h a = all_nth P ys i x h a.1

@@ -1,6 +1,9 @@
 -- The walk that a survey's text opens.
 use Rattle.std.specs.Prelude.{◌≡◌, ℕ, List, length}
 use Rattle.labels.specs.Sets.{highest_below, full, Subset}
+use Rattle.matroid.specs.declared.interface.Matroid.{Ghosts as MatroidOf}
+use Rattle.tie_rule.specs.declared.rule.TieRule.{Ghosts as TieRuleOf}
+use Rattle.measure.specs.declared.interface.Measure.{Ghosts as MeasureOf}
 use Rattle.graphic.specs.declared.graph.Graphic.{Graphic}
 use Rattle.graphic.specs.Graphs.{forest}
 use Rattle.graphic.specs.Edges.{graph}
@@ -38,7 +41,8 @@ abbrev pub survey_setting : Sheet → Setting Closest Shift
 survey_setting s = setting_for (edges_of s) (shifts_for s)
 
 -- w has just begun, from the empty set and with all labels active, over the lawful survey that the text writes
-pub record Opened (text : List ℕ) (w : Walk Graphic Closest Shifts Shift) : Type 0 where
+pub record Opened {matroids : MatroidOf Graphic} {rules : TieRuleOf Closest} {measures : MeasureOf Shifts Shift}
+    (text : List ℕ) (w : Walk Graphic Closest Shifts Shift matroids rules measures) : Type 0 where
   pub sheet : Sheet
   pub lawful : Lawful sheet
   pub writes : Writes text sheet

@@ -7,7 +7,6 @@ use Rattle.walk_laws.specs.declared.Stop.TheVariants.{Finished, Full}
 use Rattle.walk.specs.Lists.{ListedOn, free, entries_for}
 use Rattle.walk_laws.specs.Settings.{Setting}
 use Rattle.walk_laws.specs.Steps.{Several, State, several, step}
-use Rattle.labels.proofs.Card.{more}
 use Rattle.walk_laws.proofs.Several.{several_more, several_stop}
 use Rattle.walk_laws.specs.Lives.{lists}
 

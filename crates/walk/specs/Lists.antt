@@ -5,7 +5,7 @@ use Rattle.roll.specs.View.{filled, size}
 use Rattle.walk_laws.specs.declared.Exchange.{Exchange}
 use Rattle.walk_laws.specs.declared.Stop.{Stop}
 use Rattle.walk_laws.specs.Settings.{Setting}
-use Rattle.walk_laws.specs.Steps.{State, several, after}
+use Rattle.walk_laws.specs.Steps.{State, several}
 use Rattle.walk_laws.specs.Lives.{Call, listed, sets_of}
 
 -- how many entries of a roll are free

@@ -22,14 +22,14 @@ setting matroids rules measures matroid measure = record {
   worth = measures.worth measure;
 }
 
-abbrev pub state_of : {P R M V : Type 0} → Walk P R M V → State R V
+abbrev pub state_of : {P R M V : Type 0} {matroids : MatroidOf P} {rules : TieRuleOf R} {measures : MeasureOf M V} → Walk P R M V matroids rules measures → State R V
 state_of w = record { present = w.present; active = w.active; count = w.count; value = w.value; total = w.total; tie = w.rule }
 
-abbrev pub setting_of : {P R M V : Type 0} → MatroidOf P → TieRuleOf R → MeasureOf M V → Walk P R M V → Setting R V
+abbrev pub setting_of : {P R M V : Type 0} (matroids : MatroidOf P) (rules : TieRuleOf R) (measures : MeasureOf M V) → Walk P R M V matroids rules measures → Setting R V
 setting_of matroids rules measures w = setting matroids rules measures w.matroid w.measure
 
 -- the present set is a base: begin establishes it, every call keeps it, and by the law of the life it never fails
-abbrev pub Based : {P R M V : Type 0} → MatroidOf P → Walk P R M V → Type 0
+abbrev pub Based : {P R M V : Type 0} (matroids : MatroidOf P) {rules : TieRuleOf R} {measures : MeasureOf M V} → Walk P R M V matroids rules measures → Type 0
 Based matroids w = Base (matroids.size w.matroid) (matroids.independent w.matroid) w.present
 
 -- exactly one of e and f is in t, and swapping them gives an independent set

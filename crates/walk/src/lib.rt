@@ -3,12 +3,12 @@
 
 mod calls;
 mod candidates;
-mod entry;
 mod lists;
 mod parts;
+mod roll_entry;
 mod state;
 
-pub use entry::Entry;
 pub use parts::Parts;
+pub use roll_entry::Entry;
 pub use state::Walk;
 pub use walk_laws::{Exchange, Stop, View};

@@ -4,7 +4,7 @@ ghost use Rattle.walk.specs.Lists.{ListedOn, free};
 ghost use Rattle.walk.specs.States.{Based, setting_of, state_of};
 
 use crate::Walk;
-use crate::entry::Entry;
+use crate::roll_entry::Entry;
 use matroid::Matroid;
 use measure::Measure;
 use roll::Roll;

@@ -17,14 +17,14 @@ use Rattle.survey_walk.proofs.opening.walk_of.Goals as goal
 
 pub unreachable-requires : goal.unreachable-requires
 unreachable-requires c =
-    c.in-default.ensures ((c.in-ok-survey.ensures.accepts _ (sheet_of c.in-ok-survey.survey)).0 (sym c.in-ok-survey.ensures.is)).0
+    c.in_default.ensures ((c.in_ok-survey.ensures.accepts _ (sheet_of c.in_ok-survey.survey)).0 (sym c.in_ok-survey.ensures.is)).0
 
 pub returns : goal.returns
 returns c =
-    let told = c.begin.ensures in let read = c.in-ok-survey.ensures in let s = sheet_of c.in-ok-survey.survey in
+    let told = c.begin.ensures in let read = c.in_ok-survey.ensures in let s = sheet_of c.in_ok-survey.survey in
     let accepted = (read.accepts c.args.text.now s).0 (sym read.is) in
-    let graph_is = c.in-Ok.ensures in let shifts-are = c.in-Ok-shifts-of.ensures in
-    let same : setting_for (graph c.in-Ok.graphic) (entries_of c.in-Ok-shifts-of.shifts) ≡ survey_setting s = λ i. setting_for (graph_is.1 i) (shifts-are i) in
+    let graph_is = c.in-Ok.ensures in let shifts-are = c.in-Ok-shifts_of.ensures in
+    let same : setting_for (graph c.in-Ok.graphic) (entries_of c.in-Ok-shifts_of.shifts) ≡ survey_setting s = λ i. setting_for (graph_is.1 i) (shifts-are i) in
     record {
       sheet = s;
       lawful = accepted.0;

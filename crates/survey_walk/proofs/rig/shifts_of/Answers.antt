@@ -8,22 +8,22 @@ use Rattle.survey_walk.specs.Rigs.{row_shift}
 use Rattle.survey_walk.proofs.Rows.{take_more, take_all, nth_none, few_taken}
 use Rattle.survey_walk.proofs.rig.shifts_of.Goals as goal
 
-pub returns-in-default : goal.returns-in-default
-returns-in-default c =
+pub returns-in_default : goal.returns-in_default
+returns-in_default c =
     let rows = rows_of c.args.survey.now in
-    c.loop-i.invariant ∙ take_all row_shift rows c.loop-i.i (nth_none rows c.loop-i.i c.in-default.ensures)
+    c.loop-i.invariant ∙ take_all row_shift rows c.loop-i.i (nth_none rows c.loop-i.i c.in_default.ensures)
 
-pub returns-in-err-add : goal.returns-in-err-add
-returns-in-err-add c =
-    let p = err_from_is_err_and c.from-residual.result c.from-residual.ensures.1 in
+pub returns-in_err-add : goal.returns-in_err-add
+returns-in_err-add c =
+    let p = err_from_is_err_and c.from_residual.result c.from_residual.ensures.1 in
     let few = few_taken row_shift (rows_of c.args.survey.now) c.loop-i.i in
-    rw p.1 (omega (arith, ap length c.loop-i.invariant, few, c.loop-i-test.true, c.len-i-end.ensures.few, c.in-err-add.ensures.cases.0))
+    rw p.1 (omega (arith, ap length c.loop-i.invariant, few, c.loop-i-test.true, c.len-i-end.ensures.few, c.in_err-add.ensures.cases.0))
 
 pub loop-i-preserved : goal.loop-i-preserved
 loop-i-preserved c =
     let rows = rows_of c.args.survey.now in let i = c.loop-i.i in let row = c.in-Some.row in
     let x : SFits w64 row.across = search rules in let y : SFits w64 row.along = search rules in
-    c.in-ok-add.ensures.cases.1
+    c.in_ok-add.ensures.cases.1
     ∙ ap₂ (λ (a b : ℤ). entries_of c.loop-i.shifts ++ (shift_of a b ∷ [])) (to_z-of_z w64 row.across x) (to_z-of_z w64 row.along y)
     ∙ ap (λ (l : List Shift). l ++ (row_shift (row_of row) ∷ [])) c.loop-i.invariant
     ∙ sym (take_more row_shift rows i (row_of row) c.in-Some.ensures)

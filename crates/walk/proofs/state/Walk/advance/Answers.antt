@@ -17,16 +17,16 @@ exchange-requires g c =
       some = partner_some (g.P.Matroid.independent s.matroid) s.present c.in-Some.label c.in-Some.found x.3 x.4;
     }
 
-pub returns-in-default : goal.returns-in-default
-returns-in-default g c =
+pub returns-in_default : goal.returns-in_default
+returns-in_default g c =
     let s = c.args.self.now in
     let w = setting_of g.P.Matroid g.R.TieRule g.M.Measure s in
     let W = sound g.P.Matroid g.R.TieRule g.M.Measure s.matroid s.measure (g.met.P.Matroid.matroid s.matroid) g.met.R.TieRule.lawful g.met.M.Measure.lawful in
     record {
       matroid = refl;
       measure = refl;
-      step = λ T. advance_none w W (state_of s) T c.in-default.ensures;
-      call = λ T. advances (advance_none w W (state_of s) T c.in-default.ensures);
+      step = λ T. advance_none w W (state_of s) T c.in_default.ensures;
+      call = λ T. advances (advance_none w W (state_of s) T c.in_default.ensures);
       based = λ T. T;
       cases = refl;
     }

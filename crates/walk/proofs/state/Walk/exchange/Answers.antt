@@ -4,10 +4,10 @@ use Rattle.walk.specs.States.{setting, state_of}
 use Rattle.walk.proofs.Made.{few_after, chosen, exchange_is, after_is}
 use Rattle.walk.proofs.state.Walk.exchange.Goals as goal
 
-pub invariant-of-self-2 : goal.invariant-of-self-2
-invariant-of-self-2 g c =
+pub invariant_of-self-2 : goal.invariant_of-self-2
+invariant_of-self-2 g c =
     let s = c.args.self.now in
-    (few_after s.count s.active c.args.label _ s.bounded c.requires.active (c.reopened-self.ensures.inside (omega (arith, c.requires.low))), tt)
+    record { bounded = few_after s.count s.active c.args.label _ s.bounded c.requires.active (c.reopened-self.ensures.inside (omega (arith, c.requires.low))) }
 
 pub returns : goal.returns
 returns g c =
@@ -23,5 +23,5 @@ returns g c =
       after = after_is w (state_of s) e c.args.found low _ _ _ _ _ _ c.choose-low.ensures.choice x
           (swap_is s.present e low _ (omega arith) (omega arith) l.0 (omega arith) c.swapped-self.ensures)
           (c.reopened-self.ensures.inside (omega arith))
-          c.value-after-value.ensures c.sum-self.ensures c.choose-low.ensures.next;
+          c.value_after-value.ensures c.sum-self.ensures c.choose-low.ensures.next;
     }

@@ -7,8 +7,8 @@ use Rattle.walk.specs.States.{setting, setting_of, state_of}
 use Rattle.walk.proofs.Listing.{so_far_none, so_far_more, listed_full, beyond_more, listed_finished}
 use Rattle.walk.proofs.state.Walk.list.Goals as goal
 
-pub overflow-add-appended : goal.overflow-add-appended
-overflow-add-appended g c = omega (arith, c.advance.new.self.bounded, c.in-Some.ensures.cases, c.loop-appended.invariant.2)
+pub overflow_add-appended : goal.overflow_add-appended
+overflow_add-appended g c = omega (arith, c.advance.new.self.bounded, c.in-Some.ensures.cases, c.loop-appended.invariant.2)
 
 pub loop-appended-init : goal.loop-appended-init
 loop-appended-init g c = (
@@ -28,7 +28,7 @@ loop-appended-preserved g c =
     let inv = c.loop-appended.invariant in let told = c.in-Some.ensures in
     let roll = c.loop-appended.roll in let s = c.loop-appended.self in let first = c.args.self.now in
     let room : roll.used < size roll =
-    omega (arith, eqb-false roll.used (size roll) (sym c.is-full.ensures ∙ c.if-is-full.false), roll.fits) in
+    omega (arith, eqb-false roll.used (size roll) (sym c.is_full.ensures ∙ c.if-is_full.false), roll.fits) in
     let more = c.append.ensures.added room in
     let same : setting_of g.P.Matroid g.R.TieRule g.M.Measure s ≡ setting_of g.P.Matroid g.R.TieRule g.M.Measure first =
     λ i. setting g.P.Matroid g.R.TieRule g.M.Measure (inv.0 i) (inv.1 i) in (
@@ -50,14 +50,14 @@ pub loop-appended-smaller : goal.loop-appended-smaller
 loop-appended-smaller g c =
     let inv = c.loop-appended.invariant in let roll = c.loop-appended.roll in
     let room : roll.used < size roll =
-    omega (arith, eqb-false roll.used (size roll) (sym c.is-full.ensures ∙ c.if-is-full.false), roll.fits) in
+    omega (arith, eqb-false roll.used (size roll) (sym c.is_full.ensures ∙ c.if-is_full.false), roll.fits) in
     let more = c.append.ensures.added room in
     omega (arith, more.2, inv.5)
 
-pub returns-then-is-full : goal.returns-then-is-full
-returns-then-is-full g c =
+pub returns-then-is_full : goal.returns-then-is_full
+returns-then-is_full g c =
     let inv = c.loop-appended.invariant in let roll = c.loop-appended.roll in
-    let full : roll.used ≡ size roll = eqb-true roll.used (size roll) (sym c.is-full.ensures ∙ c.if-is-full.true) in
+    let full : roll.used ≡ size roll = eqb-true roll.used (size roll) (sym c.is_full.ensures ∙ c.if-is_full.true) in
     record {
       matroid = inv.0;
       measure = inv.1;
@@ -72,12 +72,12 @@ returns-then-is-full g c =
       lender = inv.6;
     }
 
-pub returns-in-default : goal.returns-in-default
-returns-in-default g c =
+pub returns-in_default : goal.returns-in_default
+returns-in_default g c =
     let inv = c.loop-appended.invariant in let roll = c.loop-appended.roll in let s = c.loop-appended.self in let first = c.args.self.now in
-    let told = c.in-default.ensures in
+    let told = c.in_default.ensures in
     let room : roll.used < size roll =
-    omega (arith, eqb-false roll.used (size roll) (sym c.is-full.ensures ∙ c.if-is-full.false), roll.fits) in
+    omega (arith, eqb-false roll.used (size roll) (sym c.is_full.ensures ∙ c.if-is_full.false), roll.fits) in
     let same : setting_of g.P.Matroid g.R.TieRule g.M.Measure s ≡ setting_of g.P.Matroid g.R.TieRule g.M.Measure first =
     λ i. setting g.P.Matroid g.R.TieRule g.M.Measure (inv.0 i) (inv.1 i) in
     record {
