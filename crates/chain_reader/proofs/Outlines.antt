@@ -1,5 +1,5 @@
 -- A list in short, record by record.
-use Rattle.std.proofs.Common.{◌≡◌, ℕ, ◌+◌, ◌<◌, Bool, true, false, List, [], ◌∷◌, ◌++◌, length, ℤ, Some, None, sym, refl, ap, ◌∙◌, subst, arith}
+use Rattle.std.proofs.Common.{◌≡◌, ℕ, ◌<◌, false, List, [], ◌∷◌, ◌++◌, length, ℤ, Some, sym, refl, ap, ◌∙◌, subst, arith}
 use borrow.Author.Tests.{clash}
 use Rattle.std.proofs.lemmas.List.{length-append}
 use Rattle.chain_lists.specs.declared.Kind.TheVariants.{ShiftTotal, LampTotal}

@@ -1,11 +1,11 @@
 -- From record to record: what a reader has read grows, or the file is refused where it stands.
-use Rattle.std.proofs.Common.{◌≡◌, ℕ, ◌+◌, ◌<◌, ◌≤◌, Bool, true, false, cond, eqb, List, [], ◌∷◌, ◌++◌, length, Some, None, Option, sym, refl, ap, ◌∙◌, ap₂, arith}
-use Rattle.std.proofs.lemmas.List.{append-nil, append_assoc, length-append}
+use Rattle.std.proofs.Common.{◌≡◌, ℕ, ◌+◌, Bool, cond, List, [], ◌∷◌, ◌++◌, length, Some, Option, sym, refl, ap, ◌∙◌, ap₂, arith}
+use Rattle.std.proofs.lemmas.List.{append-nil, length-append}
 use Rattle.std.proofs.lemmas.Bool.{eq-eqb}
 use Rattle.chain_lists.specs.declared.Kind.{Kind}
 use Rattle.chain_lists.specs.declared.Spot.{Spot}
 use Rattle.chain_lists.specs.Lists.{framed, kind_length}
-use Rattle.chain_lists.specs.Faults.{Beginning, nothing, so_far, ended, LawfulBeginning, bytes_of, swaps_in, Fault, out_of_order, misshapen, cut_off, kind_in, body_in, stated, complete, due, body_fault, kind_fault, record_fault, fault_after, Refused}
+use Rattle.chain_lists.specs.Faults.{Beginning, nothing, so_far, ended, LawfulBeginning, bytes_of, swaps_in, Fault, out_of_order, misshapen, cut_off, kind_in, body_in, due, body_fault, kind_fault, record_fault, fault_after, Refused}
 use Rattle.chain_lists.proofs.Bytes.{length_framed, stated_framed, kind_framed, body_framed, complete_framed}
 use Rattle.chain_records.specs.Records.{exchanges_in, behind}
 use Rattle.chain_reader.specs.declared.states.Stage.{Stage}

@@ -1,5 +1,5 @@
 -- What a record says after a beginning, by its kind.
-use Rattle.std.proofs.Common.{◌≡◌, ℕ, ◌+◌, ◌^◌, ◌<◌, ◌≤◌, Bool, true, false, cond, ◌||◌, eqb, List, [], ◌∷◌, ◌++◌, length, get_or, take, drop, ℤ, Some, None, sym, refl, ap, ◌∙◌, subst, arith, w64, SFits, to_z, of_z}
+use Rattle.std.proofs.Common.{◌≡◌, ℕ, ◌+◌, ◌^◌, ◌<◌, ◌≤◌, Bool, true, false, cond, eqb, List, [], ◌∷◌, ◌++◌, length, get_or, take, drop, ℤ, Some, None, sym, refl, ap, ◌∙◌, subst, arith, w64, SFits, to_z, of_z}
 use mir.ValLaws.{to_z-Fits}
 use borrow.Author.Tests.{clash}
 use Rattle.std.proofs.lemmas.List.{length-append, length-drop, take_all, take-append-drop}
@@ -12,9 +12,9 @@ use Rattle.chain_lists.specs.declared.Spot.{Spot}
 use Rattle.chain_lists.specs.declared.Swap.{Swap}
 use Rattle.chain_lists.specs.declared.Total.{Total}
 use Rattle.chain_lists.specs.declared.Total.TheVariants.{Shift, Lamp}
-use Rattle.chain_lists.specs.Lists.{ChainList, Lawful, Fitting, after, count_of, end_written, framed, front_of, last_set, lawful_head, lawful_swap, little, stands, total_kind, total_written, with_swap, with_total}
+use Rattle.chain_lists.specs.Lists.{ChainList, Lawful, Fitting, after, count_of, end_written, framed, front_of, last_set, lawful_head, lawful_swap, little, stands, total_kind, total_written, with_total}
 use Rattle.chain_lists.specs.Faults.{Beginning, Fault, nothing, so_far, ended, body_fault, out_of_order, swap_in, wrong_exchange}
-use Rattle.chain_lists.proofs.Growth.{lawful_begun, front_begun, last_set_more, lawful-swap-more, front-swap-more, count_swap_more, stands-more, lawful-total-more, front_total_more}
+use Rattle.chain_lists.proofs.Growth.{lawful_begun, front_begun, last_set_more, lawful-swap-more, front-swap-more, stands-more, lawful-total-more, front_total_more}
 use Rattle.chain_lists.proofs.Lawful.{head_tells}
 use Rattle.chain_records.specs.Records.{exchanges_in}
 use Rattle.chain_reader.specs.declared.states.Progress.{Progress}
@@ -22,7 +22,7 @@ use Rattle.chain_reader.specs.declared.states.Stage.{Stage}
 use Rattle.chain_reader.specs.declared.states.Stage.TheVariants.{Nothing, SoFar, Ended}
 use Rattle.chain_reader.specs.declared.values.Entry.{Entry}
 use Rattle.chain_reader.specs.declared.values.Entry.TheVariants.{Head, Exchange, Total as Summed, End}
-use Rattle.chain_reader.specs.Reading.{Known, Says, StageAfter, Told, order_fault}
+use Rattle.chain_reader.specs.Reading.{Known, Says, StageAfter, order_fault}
 
 -- ---- bodies
 

@@ -9,7 +9,6 @@ use Rattle.chain_lists.specs.Lists.{ChainList, Holds, after, begun, count_of, en
 use Rattle.chain_lists.specs.Faults.{Beginning, nothing, so_far, ended, LawfulBeginning, bytes_of, swaps_in, Fault, out_of_order, wrong_head, wrong_exchange, wrong_count, due, body_fault}
 use Rattle.chain_records.specs.Records.{exchanges_in, file_of, left_of, place_of}
 use Rattle.chain_records.specs.Records as records
-use Rattle.chain_reader.specs.declared.states.Progress.{Progress}
 use Rattle.chain_reader.specs.declared.states.Stage.{Stage}
 use Rattle.chain_reader.specs.declared.states.Stage.TheVariants.{Nothing, SoFar, Ended}
 use Rattle.chain_reader.specs.declared.states.ListReader.{ListReader}

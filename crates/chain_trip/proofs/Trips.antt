@@ -1,11 +1,11 @@
 -- When the calls of a trip are taken.
-use Rattle.std.proofs.Common.{◌≡◌, ℕ, ◌+◌, ◌≤◌, Bool, true, false, cond, ◌&&◌, leb, List, length, Some, None, Option, sym, ap, ◌∙◌, arith}
+use Rattle.std.proofs.Common.{◌≡◌, ℕ, ◌+◌, ◌≤◌, Bool, true, false, cond, ◌&&◌, leb, List, length, Some, None, sym, ap, ◌∙◌, arith}
 use Rattle.chain_lists.specs.declared.Swap.{Swap}
 use Rattle.chain_lists.specs.Lists.{begun, head_written, lawful_head, lawful_swap}
 use Rattle.chain_lists.proofs.Growth.{front_begun, length_head_written}
 use Rattle.chain_writer.specs.declared.states.Open.{Open}
 use Rattle.chain_writer.specs.declared.states.WriterRefusal.{WriterRefusal}
-use Rattle.chain_writer.specs.declared.states.WriterRefusal.TheVariants.{ShortBuffer, NoRoom, WrongHead, WrongExchange}
+use Rattle.chain_writer.specs.declared.states.WriterRefusal.TheVariants.{NoRoom, WrongExchange}
 use Rattle.chain_writer.specs.Writing.{OpenHolds, begin_refusal, exchange_refusal, put_at}
 use Rattle.chain_writer.proofs.Splice.{length_put}
 use Rattle.chain_trip.specs.Trip.{lawful_trip}

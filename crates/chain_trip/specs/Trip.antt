@@ -1,5 +1,5 @@
 -- The list of a trip, and when its calls are taken.
-use Rattle.std.specs.Prelude.{ℕ, Bool, ◌&&◌, List, [], ◌∷◌, nat_le}
+use Rattle.std.specs.Prelude.{ℕ, Bool, ◌&&◌, [], ◌∷◌, nat_le}
 use Rattle.chain_lists.specs.declared.Swap.{Swap}
 use Rattle.chain_lists.specs.declared.Total.TheVariants.{Lamp}
 use Rattle.chain_lists.specs.Lists.{ChainList, lawful_head, lawful_swap}

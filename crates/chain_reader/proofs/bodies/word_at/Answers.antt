@@ -1,4 +1,4 @@
-use Rattle.std.proofs.Common.{◌≡◌, take, drop, sym, refl, ap, ◌∙◌}
+use Rattle.std.proofs.Common.{◌≡◌, take, drop}
 use Rattle.chain_lists.specs.Faults.{number_in}
 use Rattle.chain_reader.proofs.Words.{word-reads, word-writes}
 use Rattle.chain_reader.proofs.bodies.word_at.Goals as goal

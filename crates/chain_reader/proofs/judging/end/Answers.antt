@@ -1,4 +1,4 @@
-use Rattle.std.proofs.Common.{◌≡◌, ℕ, ◌+◌, ap, ◌∙◌}
+use Rattle.std.proofs.Common.{ℕ, ◌+◌, ap, ◌∙◌}
 use Rattle.chain_reader.proofs.Says.{amid-says, end-says}
 use Rattle.chain_reader.proofs.judging.end.Goals as goal
 

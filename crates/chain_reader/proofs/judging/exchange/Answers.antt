@@ -1,4 +1,4 @@
-use Rattle.std.proofs.Common.{◌≡◌, sym, refl, ◌∙◌, arith}
+use Rattle.std.proofs.Common.{sym, refl, ◌∙◌, arith}
 use Rattle.chain_lists.specs.declared.Kind.TheVariants.{ShiftTotal, LampTotal}
 use Rattle.chain_reader.proofs.Says.{amid-says, amid-fault, exchange-says, late-exchange, wrong-exchange-is}
 use Rattle.chain_reader.proofs.judging.exchange.Goals as goal

@@ -1,4 +1,4 @@
-use Rattle.std.proofs.Common.{◌≡◌, sym, refl, ◌∙◌, subst}
+use Rattle.std.proofs.Common.{sym, refl, ◌∙◌, subst}
 use Rattle.chain_reader.specs.Reading.{StageAfter}
 use Rattle.chain_reader.proofs.Says.{head-says}
 use Rattle.chain_reader.proofs.judging.head.Goals as goal

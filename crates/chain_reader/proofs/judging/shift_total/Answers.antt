@@ -1,4 +1,4 @@
-use Rattle.std.proofs.Common.{◌≡◌, ◌∙◌, w64}
+use Rattle.std.proofs.Common.{◌∙◌, w64}
 use Rattle.std.proofs.lemmas.Int.{to_z-of_z}
 use Rattle.chain_reader.proofs.Says.{amid-says, Shift-says}
 use Rattle.chain_reader.proofs.judging.shift_total.Goals as goal

@@ -1,4 +1,4 @@
-use Rattle.std.proofs.Common.{◌≡◌, sym, ◌∙◌, ap₂, w64, SFits, rules}
+use Rattle.std.proofs.Common.{sym, ◌∙◌, ap₂, w64, SFits, rules}
 use Rattle.std.proofs.lemmas.Int.{to_z-of_z}
 use Rattle.chain_lists.specs.declared.Total.TheVariants.{Shift}
 use Rattle.chain_reader.proofs.Outlines.{shift-adds, lamp-adds}

@@ -5,7 +5,7 @@ use Rattle.std.proofs.lemmas.Option.{MatchOption-at_some}
 use Rattle.chain_lists.specs.declared.Spot.{Spot}
 use Rattle.chain_lists.specs.Lists.{framed}
 use Rattle.chain_lists.specs.Faults.{bytes_of}
-use Rattle.chain_records.specs.Records.{left_of, place_of}
+use Rattle.chain_records.specs.Records.{left_of}
 use Rattle.chain_records.proofs.Frames.{nothing_left}
 use Rattle.chain_reader.specs.Reading.{Known, StageAfter, end_of, entry_written, extended}
 use Rattle.chain_reader.proofs.Runs.{refused-here, ended_well, fault_next, framed-fault, framed_some, goes-behind}
@@ -24,7 +24,7 @@ returns-then-is_empty c =
 
 pub returns-in_err-record : goal.returns-in_err-record
 returns-in_err-record c =
-    let p = err_from_is_err_and c.from-residual.result c.from-residual.ensures.1 in
+    let p = err_from_is_err_and c.from_residual.result c.from_residual.ensures.1 in
     let k = c.in_err-record.ensures.cases in
     record {
       file = refl;
@@ -35,7 +35,7 @@ returns-in_err-record c =
 
 pub returns-in_err-step : goal.returns-in_err-step
 returns-in_err-step c =
-    let p = err_from_is_err_and c.from-residual-in_err-step.result c.from-residual-in_err-step.ensures.1 in
+    let p = err_from_is_err_and c.from_residual-in_err-step.result c.from_residual-in_err-step.ensures.1 in
     let x = c.in-Some.record in
     let k = MatchOption-at_some _ _ x c.in-Some.is c.in_ok-record.ensures.cases in
     record {
