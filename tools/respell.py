@@ -17,8 +17,12 @@ LIBRARY = {"bit-and": "bit_of_and", "bit-or": "bit_of_or", "bit-xor": "bit_of_xo
 def definitions(path):
     """The names that a file defines at its top or in a module: (kind, name). Nothing below a `where` of a lemma counts."""
     found, inner = [], None
-    for line in open(path, encoding="utf-8"):
+    with open(path, encoding="utf-8") as f:
+        lines = f.read().split("\n")
+    for line, after in zip(lines, lines[1:] + [""]):
         text = line.strip()
+        if after.strip().startswith(": "):
+            text += " :"  # a signature whose type begins in the next line
         if not text or text.startswith("--"):
             continue
         indent = len(line) - len(line.lstrip())
@@ -34,10 +38,28 @@ def definitions(path):
         if m:
             found.append((m.group(1), m.group(2)))
             continue
-        m = re.match(r"(?:unfoldable |abbrev )?(?:pub )?(?:abbrev )?([^\s:({]+) :(?: (.*))?$", text)
+        m = re.match(r"(?:unfoldable |abbrev )?(?:pub )?(?:abbrev )?([^\s:({]+)(?: \{[^}]*\})* :(?: (.*))?$", text)
         if m and not (m.group(2) or "").startswith("goal."):
             found.append(("value", m.group(1)))
     return found
+
+
+def imports(text):
+    """What a file imports: (module, name, the name that it goes by)."""
+    for module, names in re.findall(r"^(?:ghost )?use ([\w.+'-]+)\.\{([^}]*)\}", text, re.M):
+        for each in names.split(","):
+            name, _, other = each.strip().partition(" as ")
+            yield module, name, other.strip() or name
+
+
+def left_alone(text, own):
+    """The names in a file that are the library's."""
+    return {local for module, _, local in imports(text) if not module.startswith(own)}
+
+
+def aliases(text):
+    """Other names that a file gives to what it imports."""
+    return {local: snake(local) for _, name, local in imports(text) if local != name and local[:1].islower() and snake(local) != local}
 
 
 def snake(name):
@@ -84,19 +106,16 @@ def main():
         pattern = re.compile("(?:^|(?<=%s))(%s)(?=%s|$)" % (EDGE, "|".join(sorted(map(re.escape, names), key=len, reverse=True)), EDGE), re.M)
         return pattern.sub(lambda m: names[m.group(1)], text)
 
-    for p in sorted(glob.glob("crates/*/specs/**/*.antt", recursive=True) + glob.glob("crates/*/proofs/**/*.antt", recursive=True)):
+    own = tuple("Rattle.%s." % p.split("/")[1] for p in glob.glob("crates/*/src"))
+    antt = sorted(glob.glob("crates/*/specs/**/*.antt", recursive=True) + glob.glob("crates/*/proofs/**/*.antt", recursive=True))
+    for p in antt + sorted(glob.glob("crates/*/src/**/*.rt", recursive=True) + glob.glob("crates/*/must-fail/*.edit")):
         with open(p, encoding="utf-8") as f:
             old = f.read()
-        lines = [l if l.strip().startswith("--") else respell(l, {**turned, **owned.get(p, {})}) for l in old.split("\n")]
+        kept = left_alone(old, own)
+        names = {**turned, **owned.get(p, {}), **aliases(old)}
+        names = {a: b for a, b in names.items() if a not in kept or a in aliases(old)}
+        lines = [l if l.strip().startswith(("--", "//")) else respell(l, names) for l in old.split("\n")]
         write(p, old, "\n".join(lines))
-    for p in sorted(glob.glob("crates/*/src/**/*.rt", recursive=True) + glob.glob("crates/*/must-fail/*.edit")):
-        with open(p, encoding="utf-8") as f:
-            old = f.read()
-        lines = [l if l.strip().startswith("//") else respell(l, turned) for l in old.split("\n")]
-        write(p, old, "\n".join(lines))
-    with open("/tmp/respelled.txt", "w", encoding="utf-8") as f:
-        for a, b in sorted(turned.items()):
-            f.write("%s %s\n" % (a, b))
 
 
 def write(path, old, new):

@@ -6,7 +6,7 @@ use Rattle.labels.specs.Sets.{has, swap}
 use Rattle.labels.proofs.Member.{members}
 use Rattle.chain_lists.specs.declared.Swap.{Swap}
 use Rattle.chain_lists.specs.Lists.{ChainList, Lawful, after, sets_from, sets_of, lawful_swap, lawful_swaps}
-use Rattle.chain_lists.proofs.Lawful.{swap-tells}
+use Rattle.chain_lists.proofs.Lawful.{swap_tells}
 
 -- two exchanges that lead to the same set are the same
 module _ (t e f e' f' : ℕ) (low : 0 < f) (high : f < e) (low' : 0 < f') (high' : f' < e') (same : swap t e f ≡ swap t e' f') where
@@ -24,8 +24,8 @@ module _ (t e f e' f' : ℕ) (low : 0 < f) (high : f < e) (low' : 0 < f') (high'
 
 swap_same : (n t : ℕ) (x y : Swap) → lawful_swap n t x ≡ true → lawful_swap n t y ≡ true → after t x ≡ after t y → x ≡ y
 swap_same n t x y h k e =
-    let p = swap-tells n t x h in
-    let q = swap-tells n t y k in
+    let p = swap_tells n t x h in
+    let q = swap_tells n t y k in
     let s = labels_same t x.high x.low y.high y.low p.0 p.1 q.0 q.1 e in
     let a = s.0 in
     let b = s.1 in

@@ -46,13 +46,13 @@ pub last_set_more : (t : ℕ) (xs : List Swap) (x : Swap) → last_set t (xs ++ 
 last_set_more t [] x = refl
 last_set_more t (y ∷ ys) x = last_set_more (after t y) ys x
 
-lawful-swaps-more
+lawful_swaps_more
     : (n t : ℕ) (xs : List Swap) (x : Swap)
     → lawful_swaps n t xs ≡ true → lawful_swap n (last_set t xs) x ≡ true → lawful_swaps n t (xs ++ x ∷ []) ≡ true
-lawful-swaps-more n t [] x h k = and_from (lawful_swap n t x) true k refl
-lawful-swaps-more n t (y ∷ ys) x h k =
+lawful_swaps_more n t [] x h k = and_from (lawful_swap n t x) true k refl
+lawful_swaps_more n t (y ∷ ys) x h k =
     let p = and_parts (lawful_swap n t y) (lawful_swaps n (after t y) ys) h in
-    and_from (lawful_swap n t y) (lawful_swaps n (after t y) (ys ++ x ∷ [])) p.0 (lawful-swaps-more n (after t y) ys x p.1 k)
+    and_from (lawful_swap n t y) (lawful_swaps n (after t y) (ys ++ x ∷ [])) p.0 (lawful_swaps_more n (after t y) ys x p.1 k)
 
 joined_one : {X : Type 0} (f : X → List ℕ) (xs : List X) (x : X) → flat_map f (xs ++ x ∷ []) ≡ flat_map f xs ++ f x
 joined_one f [] x = append-nil (f x)
@@ -61,21 +61,21 @@ joined_one f (y ∷ ys) x = ap (λ (q : List ℕ). f y ++ q) (joined_one f ys x)
 pub count_swap_more : (c : ChainList) (x : Swap) → count_of (with_swap c x) ≡ count_of c + 1
 count_swap_more c x = ap (λ (k : ℕ). k + 1) (length_push c.swaps x)
 
-pub lawful-swap-more
+pub lawful_swap_more
     : (c : ChainList) (x : Swap)
     → Lawful c → lawful_swap c.n (last_set c.start c.swaps) x ≡ true → count_of c + 1 < 2 ^ 64 → Lawful (with_swap c x)
-lawful-swap-more c x l h few =
+lawful_swap_more c x l h few =
     record {
       heads = l.heads;
-      leads = lawful-swaps-more c.n c.start c.swaps x l.leads h;
+      leads = lawful_swaps_more c.n c.start c.swaps x l.leads h;
       singly = l.singly;
       fitting = l.fitting;
       counted = omega (arith, count_swap_more c x);
     }
 
-pub front-swap-more
+pub front_swap_more
     : (c : ChainList) (x : Swap) → c.totals ≡ [] → front_of (with_swap c x) ≡ front_of c ++ swap_written x
-front-swap-more c x none =
+front_swap_more c x none =
     let H : List ℕ = head_written c.n c.start in
     let J : List ℕ = flat_map swap_written c.swaps in
     let no : flat_map total_written c.totals ≡ [] = ap (flat_map total_written) none in
@@ -107,12 +107,12 @@ neither true true h k = k
 neither true false h k = sym h
 neither false b h k = k
 
-pub stands-more
+pub stands_more
     : (k : Kind) (ts : List Total) (t : Total)
     → stands k (ts ++ t ∷ []) ≡ cond (same_kind (total_kind t) k) true (stands k ts)
-stands-more k [] t = refl
-stands-more k (u ∷ us) t =
-    ap (cond (same_kind (total_kind u) k) true) (stands-more k us t)
+stands_more k [] t = refl
+stands_more k (u ∷ us) t =
+    ap (cond (same_kind (total_kind u) k) true) (stands_more k us t)
     ∙ either_order (same_kind (total_kind u) k) (same_kind (total_kind t) k) (stands k us)
 
 once_more : (ts : List Total) (t : Total) → once ts ≡ true → stands (total_kind t) ts ≡ false → once (ts ++ t ∷ []) ≡ true
@@ -122,13 +122,13 @@ once_more (u ∷ us) t h k =
     let q = neither_tell (same_kind (total_kind u) (total_kind t)) (stands (total_kind t) us) k in
     let other : same_kind (total_kind t) (total_kind u) ≡ false = same_kind_sym (total_kind t) (total_kind u) ∙ q.0 in
     let apart : not (stands (total_kind u) (us ++ t ∷ [])) ≡ true =
-    ap not (stands-more (total_kind u) us t) ∙ neither (same_kind (total_kind t) (total_kind u)) (stands (total_kind u) us) other p.0 in
+    ap not (stands_more (total_kind u) us t) ∙ neither (same_kind (total_kind t) (total_kind u)) (stands (total_kind u) us) other p.0 in
     and_from (not (stands (total_kind u) (us ++ t ∷ []))) (once (us ++ t ∷ [])) apart (once_more us t p.1 q.1)
 
-pub lawful-total-more
+pub lawful_total_more
     : (c : ChainList) (t : Total)
     → Lawful c → stands (total_kind t) c.totals ≡ false → Fitting t → Lawful (with_total c t)
-lawful-total-more c t l h f =
+lawful_total_more c t l h f =
     record {
       heads = l.heads;
       leads = l.leads;
@@ -153,9 +153,9 @@ length_swaps [] = refl
 length_swaps (x ∷ xs) =
     omega (arith, length-append (swap_written x) (flat_map swap_written xs), length_swap_written x, length_swaps xs)
 
-length-front-parts
+length_front_parts
     : (c : ChainList) → length (front_of c) ≡ 15 + 8 * length c.swaps + length (flat_map total_written c.totals)
-length-front-parts c =
+length_front_parts c =
     let H : List ℕ = head_written c.n c.start in
     let J : List ℕ = flat_map swap_written c.swaps in
     let K : List ℕ = flat_map total_written c.totals in
@@ -164,9 +164,9 @@ length-front-parts c =
     omega (arith, a, b, length_head_written c.n c.start, length_swaps c.swaps)
 
 pub length_front_le : (c : ChainList) → 15 + 8 * length c.swaps ≤ length (front_of c)
-length_front_le c = omega (arith, length-front-parts c)
+length_front_le c = omega (arith, length_front_parts c)
 
 pub length_front : (c : ChainList) → c.totals ≡ [] → length (front_of c) ≡ 15 + 8 * length c.swaps
 length_front c none =
     let no : length (flat_map total_written c.totals) ≡ 0 = ap (λ (ts : List Total). length (flat_map total_written ts)) none in
-    omega (arith, length-front-parts c, no)
+    omega (arith, length_front_parts c, no)

@@ -4,10 +4,10 @@ use Rattle.labels.specs.Sets.{limit, differs, has}
 use Rattle.chain_lists.specs.declared.Swap.{Swap}
 use Rattle.chain_lists.specs.Lists.{lawful_head, lawful_swap}
 
-pub swap-tells
+pub swap_tells
     : (n t : ℕ) (x : Swap) → lawful_swap n t x ≡ true
     → (0 < x.low) × (x.low < x.high) × (x.high ≤ n) × (differs (has t x.high) (has t x.low) ≡ true)
-swap-tells n t x h = grind arith
+swap_tells n t x h = grind arith
 
 pub head_tells : (n s : ℕ) → lawful_head n s ≡ true → (n ≤ limit) × (s < 2 ^ n)
 head_tells n s h = grind arith

@@ -38,10 +38,10 @@ shift_kept (Lamp v ∷ ts) w = shift_kept ts w
 
 -- ---- what a record adds
 
-pub exchange-adds
+pub exchange_adds
     : (b : Beginning) (s : Summary) (e : Entry) (x : Swap) (t : ℕ) → e ≡ Exchange x t → SummaryAfter b s → Told b e
     → SummaryAfter (extended b e) (record { n = s.n; start = s.start; last = t; count = s.count; shift = s.shift; lamp = s.lamp })
-exchange-adds b s e x t is =
+exchange_adds b s e x t is =
     subst (λ (a : Entry). SummaryAfter b s → Told b a → SummaryAfter (extended b a) (record { n = s.n; start = s.start; last = t; count = s.count; shift = s.shift; lamp = s.lamp })) (sym is) (go b)
   where
     go : (a : Beginning) → SummaryAfter a s → Told a (Exchange x t)
@@ -51,10 +51,10 @@ exchange-adds b s e x t is =
         record { labels = o.labels; first = o.first; latest = told ∙ sym (last_set_more c.start c.swaps x); shifts = o.shifts; lamps = o.lamps }
     go (ended c) o told = absurd told
 
-pub shift-adds
+pub shift_adds
     : (b : Beginning) (s : Summary) (t : Total) (x y : ℤ) → t ≡ Shift x y → SummaryAfter b s → Told b (Summed t)
     → SummaryAfter (extended b (Summed t)) (record { n = s.n; start = s.start; last = s.last; count = s.count; shift = Some (x, y); lamp = s.lamp })
-shift-adds b s t x y is =
+shift_adds b s t x y is =
     subst (λ (u : Total). SummaryAfter b s → Told b (Summed u) → SummaryAfter (extended b (Summed u)) (record { n = s.n; start = s.start; last = s.last; count = s.count; shift = Some (x, y); lamp = s.lamp })) (sym is) (go b)
   where
     go : (a : Beginning) → SummaryAfter a s → Told a (Summed (Shift x y))
@@ -64,10 +64,10 @@ shift-adds b s t x y is =
         record { labels = o.labels; first = o.first; latest = o.latest; shifts = sym (shift_first c.totals x y told); lamps = o.lamps ∙ sym (lamp_kept c.totals x y) }
     go (ended c) o told = absurd told
 
-pub lamp-adds
+pub lamp_adds
     : (b : Beginning) (s : Summary) (t : Total) (w : ℕ) → t ≡ Lamp w → SummaryAfter b s → Told b (Summed t)
     → SummaryAfter (extended b (Summed t)) (record { n = s.n; start = s.start; last = s.last; count = s.count; shift = s.shift; lamp = Some w })
-lamp-adds b s t w is =
+lamp_adds b s t w is =
     subst (λ (u : Total). SummaryAfter b s → Told b (Summed u) → SummaryAfter (extended b (Summed u)) (record { n = s.n; start = s.start; last = s.last; count = s.count; shift = s.shift; lamp = Some w })) (sym is) (go b)
   where
     go : (a : Beginning) → SummaryAfter a s → Told a (Summed (Lamp w))

@@ -13,10 +13,10 @@ use Rattle.chain_reader.specs.declared.states.Stage.TheVariants.{Nothing, SoFar,
 use Rattle.chain_reader.specs.Reading.{Finished, StageAfter, end_of, order_fault}
 
 -- refused at the end of what was read
-pub refused-here
+pub refused_here
     : (file : List ℕ) (b : Beginning) (rest : List ℕ) (f : Fault) (at : Spot)
     → LawfulBeginning b → file ≡ bytes_of b ++ rest → at ≡ end_of b → fault_after b rest ≡ Some f → Refused file f at
-refused-here file b rest f at L e p h =
+refused_here file b rest f at L e p h =
     record {
       beginning = b;
       lawful = L;
@@ -60,10 +60,10 @@ fault_next (ended c) (x ∷ xs) (SoFar p) st n z = absurd st
 fault_next (ended c) (x ∷ xs) Ended st n z = absurd (n refl)
 
 -- a record with a good frame
-pub framed-fault
+pub framed_fault
     : (b : Beginning) (k : Kind) (body more rest : List ℕ) → length body + 2 ≡ kind_length k → rest ≡ framed k body ++ more
     → record_fault b rest ≡ order_fault b k body
-framed-fault b k body more rest l e =
+framed_fault b k body more rest l e =
     let xs : List ℕ = framed k body ++ more in
     ap (record_fault b) e
     ∙ ap (λ (t : Bool). cond t (kind_fault b (kind_in xs) xs) (Some cut_off)) (complete_framed k body more l)
@@ -77,11 +77,11 @@ framed_some k body more rest e z =
     omega (arith, l, length_framed k body, ap length z)
 
 -- where the next record begins
-pub goes-behind
+pub goes_behind
     : (b a : Beginning) (k : Kind) (body : List ℕ) (at : Spot)
     → length body + 2 ≡ kind_length k → bytes_of a ≡ bytes_of b ++ framed k body → swaps_in a ≡ swaps_in b + exchanges_in k → at ≡ end_of b
     → behind at k ≡ end_of a
-goes-behind b a k body at l e s p =
+goes_behind b a k body at l e s p =
     let size : length (bytes_of a) ≡ length (bytes_of b) + (4 + kind_length k) =
     omega (arith, ap length e ∙ length-append (bytes_of b) (framed k body), length_framed k body, l) in
     ap (λ (q : Spot). behind q k) p ∙ ap₂ (λ (m n : ℕ). record { byte = m; before = n }) (sym size) (sym s)

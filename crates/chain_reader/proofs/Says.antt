@@ -14,7 +14,7 @@ use Rattle.chain_lists.specs.declared.Total.{Total}
 use Rattle.chain_lists.specs.declared.Total.TheVariants.{Shift, Lamp}
 use Rattle.chain_lists.specs.Lists.{ChainList, Lawful, Fitting, after, count_of, end_written, framed, front_of, last_set, lawful_head, lawful_swap, little, stands, total_kind, total_written, with_total}
 use Rattle.chain_lists.specs.Faults.{Beginning, Fault, nothing, so_far, ended, body_fault, out_of_order, swap_in, wrong_exchange}
-use Rattle.chain_lists.proofs.Growth.{lawful_begun, front_begun, last_set_more, lawful-swap-more, front-swap-more, stands-more, lawful-total-more, front_total_more}
+use Rattle.chain_lists.proofs.Growth.{lawful_begun, front_begun, last_set_more, lawful_swap_more, front_swap_more, stands_more, lawful_total_more, front_total_more}
 use Rattle.chain_lists.proofs.Lawful.{head_tells}
 use Rattle.chain_records.specs.Records.{exchanges_in}
 use Rattle.chain_reader.specs.declared.states.Progress.{Progress}
@@ -57,25 +57,25 @@ amid P nothing s at p is k f = absurd (subst (StageAfter nothing) is k.stage)
 amid P (so_far c) s at p is k f = f c k.lawful (subst (StageAfter (so_far c)) is k.stage) k.before
 amid P (ended c) s at p is k f = absurd (subst (StageAfter (ended c)) is k.stage)
 
-pub amid-says
+pub amid_says
     : (b : Beginning) (s : Stage) (at : Spot) (p : Progress) {l : Kind} {body : List ℕ} {e : Entry} {q : Stage} → s ≡ SoFar p → Known b s at
     → ((c : ChainList) → Lawful c → StageAfter (so_far c) (SoFar p) → at.before ≡ length c.swaps → Says (so_far c) l body e q)
     → Says b l body e q
-amid-says b s at p {l} {body} {e} {q} is k f = amid (λ (a : Beginning). Says a l body e q) b s at p is k f
+amid_says b s at p {l} {body} {e} {q} is k f = amid (λ (a : Beginning). Says a l body e q) b s at p is k f
 
-pub amid-fault
+pub amid_fault
     : (b : Beginning) (s : Stage) (at : Spot) (p : Progress) (body : List ℕ) (w : Fault) → s ≡ SoFar p → Known b s at
     → ((c : ChainList) → Lawful c → StageAfter (so_far c) (SoFar p) → at.before ≡ length c.swaps → order_fault (so_far c) kind.Exchange body ≡ Some w)
     → order_fault b kind.Exchange body ≡ Some w
-amid-fault b s at p body w is k f = amid (λ (a : Beginning). order_fault a kind.Exchange body ≡ Some w) b s at p is k f
+amid_fault b s at p body w is k f = amid (λ (a : Beginning). order_fault a kind.Exchange body ≡ Some w) b s at p is k f
 
 -- ---- records
 
-pub head-says
+pub head_says
     : (b : Beginning) (n s : ℕ) (body : List ℕ) → StageAfter b Nothing → length body + 2 ≡ 11
     → n ≡ get_or body 0 0 → little 8 s ≡ take 8 (drop 1 body) → lawful_head n s ≡ true
     → Says b kind.Head body (Head n s) (SoFar (record { n = n; present = s; shift = false; lamp = false }))
-head-says nothing n s body st l e w h =
+head_says nothing n s body st l e w h =
     record {
       told = tt;
       lawful = lawful_begun n s h;
@@ -84,17 +84,17 @@ head-says nothing n s body st l e w h =
       swaps = refl;
       stage = (refl, refl, refl, refl);
     }
-head-says (so_far c) n s body st l e w h = absurd st
-head-says (ended c) n s body st l e w h = absurd st
+head_says (so_far c) n s body st l e w h = absurd st
+head_says (ended c) n s body st l e w h = absurd st
 
-pub exchange-says
+pub exchange_says
     : (c : ChainList) (p : Progress) (x : Swap) (t : ℕ) (body : List ℕ)
     → Lawful c → StageAfter (so_far c) (SoFar p) → length body + 2 ≡ 4 → count_of c + 1 < 2 ^ 64
     → (p.shift ≡ false) → (p.lamp ≡ false) → x.high ≡ get_or body 0 0 → x.low ≡ get_or body 1 0
     → lawful_swap p.n p.present x ≡ true
     → ((n : ℕ) → n ≤ limit → lawful_swap n p.present x ≡ true → t ≡ after p.present x)
     → Says (so_far c) kind.Exchange body (Exchange x t) (SoFar (record { n = p.n; present = t; shift = p.shift; lamp = p.lamp }))
-exchange-says c p x t body L st l few ns nl eh el h leads =
+exchange_says c p x t body L st l few ns nl eh el h leads =
     let lawful : lawful_swap c.n (last_set c.start c.swaps) x ≡ true = cc in
     let none : c.totals ≡ [] = no_totals c.totals (sym st.2 ∙ ns) (sym st.3 ∙ nl) in
     let labels : p.n ≤ limit = omega (arith, st.0, head_tells c.n c.start L.heads) in
@@ -102,23 +102,23 @@ exchange-says c p x t body L st l few ns nl eh el h leads =
     let pair : body ≡ x.high ∷ x.low ∷ [] = two body l ∙ cc in
     record {
       told = set;
-      lawful = lawful-swap-more c x L lawful few;
+      lawful = lawful_swap_more c x L lawful few;
       bytes = ap (framed kind.Exchange) pair;
-      grown = front-swap-more c x none;
+      grown = front_swap_more c x none;
       swaps = length-append c.swaps (x ∷ []);
       stage = (st.0, set ∙ sym (last_set_more c.start c.swaps x), st.2, st.3);
     }
 
 -- a total of a kind that stands not there yet
-total-says
+total_says
     : (c : ChainList) (q : Progress) (t : Total) (body : List ℕ)
     → Lawful c → stands (total_kind t) c.totals ≡ false → Fitting t
     → framed (total_kind t) body ≡ total_written t → StageAfter (so_far (with_total c t)) (SoFar q)
     → Says (so_far c) (total_kind t) body (Summed t) (SoFar q)
-total-says c q t body L new f bytes onwards =
+total_says c q t body L new f bytes onwards =
     record {
       told = new;
-      lawful = lawful-total-more c t L new f;
+      lawful = lawful_total_more c t L new f;
       bytes = bytes;
       grown = front_total_more c t;
       swaps = no_more t;
@@ -132,37 +132,37 @@ total-says c q t body L new f bytes onwards =
 fits : (z : ℤ) (a : ℕ) → a < 2 ^ 64 → z ≡ to_z w64 a → SFits w64 z
 fits z a f e = subst (SFits w64) (sym e) (to_z-Fits w64 a (record { fits = f }))
 
-pub Shift-says
+pub ShiftSays
     : (c : ChainList) (p : Progress) (a b : ℕ) (across along : ℤ) (body : List ℕ)
     → Lawful c → StageAfter (so_far c) (SoFar p) → p.shift ≡ false → a < 2 ^ 64 → b < 2 ^ 64
     → across ≡ to_z w64 a → along ≡ to_z w64 b → length body + 2 ≡ 18
     → little 8 a ≡ take 8 (drop 0 body) → little 8 b ≡ take 8 (drop 8 body)
     → Says (so_far c) ShiftTotal body (Summed (Shift across along)) (SoFar (record { n = p.n; present = p.present; shift = true; lamp = p.lamp }))
-Shift-says c p a b across along body L st new fa fb ea eb l wa wb =
+ShiftSays c p a b across along body L st new fa fb ea eb l wa wb =
     let t : Total = Shift across along in
     let ba : little 8 (of_z w64 across) ≡ take 8 body = ap (λ (z : ℤ). little 8 (of_z w64 z)) ea ∙ ap (little 8) (of_z-to_z w64 a fa) ∙ wa in
     let bb : little 8 (of_z w64 along) ≡ take 8 (drop 8 body) = ap (λ (z : ℤ). little 8 (of_z w64 z)) eb ∙ ap (little 8) (of_z-to_z w64 b fb) ∙ wb in
     let rest : take 8 (drop 8 body) ≡ drop 8 body = take_all 8 (drop 8 body) (omega (arith, length-drop 8 body)) in
     let halves : body ≡ little 8 (of_z w64 across) ++ little 8 (of_z w64 along) =
     sym (take-append-drop 8 body) ∙ ap (λ (ys : List ℕ). ys ++ drop 8 body) (sym ba) ∙ ap (λ (ys : List ℕ). little 8 (of_z w64 across) ++ ys) (sym (bb ∙ rest)) in
-    total-says c _ t body L (sym st.2 ∙ new) (fits across a fa ea, fits along b fb eb) (ap (framed ShiftTotal) halves)
-    (st.0, st.1, sym (stands-more ShiftTotal c.totals t), st.3 ∙ sym (stands-more LampTotal c.totals t))
+    total_says c _ t body L (sym st.2 ∙ new) (fits across a fa ea, fits along b fb eb) (ap (framed ShiftTotal) halves)
+    (st.0, st.1, sym (stands_more ShiftTotal c.totals t), st.3 ∙ sym (stands_more LampTotal c.totals t))
 
-pub lamp-says
+pub lamp_says
     : (c : ChainList) (p : Progress) (w : ℕ) (body : List ℕ)
     → Lawful c → StageAfter (so_far c) (SoFar p) → p.lamp ≡ false → w < 2 ^ 64 → length body + 2 ≡ 10 → little 8 w ≡ take 8 (drop 0 body)
     → Says (so_far c) LampTotal body (Summed (Lamp w)) (SoFar (record { n = p.n; present = p.present; shift = p.shift; lamp = true }))
-lamp-says c p w body L st new f l e =
+lamp_says c p w body L st new f l e =
     let t : Total = Lamp w in
     let whole : body ≡ little 8 w = sym (e ∙ take_all 8 body (omega arith)) in
-    total-says c _ t body L (sym st.3 ∙ new) f (ap (framed LampTotal) whole)
-    (st.0, st.1, st.2 ∙ sym (stands-more ShiftTotal c.totals t), sym (stands-more LampTotal c.totals t))
+    total_says c _ t body L (sym st.3 ∙ new) f (ap (framed LampTotal) whole)
+    (st.0, st.1, st.2 ∙ sym (stands_more ShiftTotal c.totals t), sym (stands_more LampTotal c.totals t))
 
-pub end-says
+pub end_says
     : (c : ChainList) (k : ℕ) (body : List ℕ)
     → Lawful c → k ≡ count_of c → length body + 2 ≡ 10 → little 8 k ≡ take 8 (drop 0 body)
     → Says (so_far c) kind.End body (End k) Ended
-end-says c k body L e l w =
+end_says c k body L e l w =
     let whole : body ≡ little 8 k = sym (w ∙ take_all 8 body (omega arith)) in
     record {
       told = e;
@@ -175,15 +175,15 @@ end-says c k body L e l w =
 
 -- ---- refusals of an exchange
 
-pub late-exchange
+pub late_exchange
     : (c : ChainList) (k : Kind) (body : List ℕ) → stands k c.totals ≡ true → order_fault (so_far c) kind.Exchange body ≡ Some out_of_order
-late-exchange c k body h =
+late_exchange c k body h =
     ap (λ (t : Bool). cond t (body_fault (so_far c) kind.Exchange body) (Some out_of_order)) (some_total k c.totals h)
 
-pub wrong-exchange-is
+pub wrong_exchange_is
     : (c : ChainList) (p : Progress) (body : List ℕ) → StageAfter (so_far c) (SoFar p) → p.shift ≡ false → p.lamp ≡ false
     → lawful_swap p.n p.present (swap_in body) ≡ false → order_fault (so_far c) kind.Exchange body ≡ Some wrong_exchange
-wrong-exchange-is c p body st ns nl h =
+wrong_exchange_is c p body st ns nl h =
     let none : c.totals ≡ [] = no_totals c.totals (sym st.2 ∙ ns) (sym st.3 ∙ nl) in
     let first : eqb (length c.totals) 0 ≡ true = ap (λ (ts : List Total). eqb (length ts) 0) none in
     let unlawful : lawful_swap c.n (last_set c.start c.swaps) (swap_in body) ≡ false = cc in

@@ -101,10 +101,10 @@ take_sum (suc m) n (x ∷ xs) =
     ap (λ (k : ℕ). take k (x ∷ xs)) more ∙ ap (λ (l : List ℕ). x ∷ l) (take_sum m n xs)
 
 -- the record that begins with the frame of k, whose length is m
-pub Cut-record
+pub CutRecord
     : (xs : List ℕ) (k : Kind) (m : ℕ) → m ≡ kind_length k → take 6 xs ≡ framed k [] → 4 + kind_length k ≤ length xs
     → (take (4 + m) xs ≡ framed k (take (4 + m - 6) (drop 6 xs))) × (length (take (4 + m - 6) (drop 6 xs)) + 2 ≡ kind_length k)
-Cut-record xs k m is frame long =
+CutRecord xs k m is frame long =
     let two : 2 ≤ kind_length k = kind_long k in
     let sum : 4 + m ≡ 6 + (4 + m - 6) = omega arith in
     let l : length (take (4 + m - 6) (drop 6 xs)) ≡ 4 + m - 6 = length-take-le _ _ (omega (arith, length-drop 6 xs)) in

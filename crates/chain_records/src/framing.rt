@@ -1,6 +1,6 @@
 //! The frame of a record: four bytes of length, two of kind.
 ghost use Rattle.std.specs.Prelude.{◌≡◌, ◌+◌, ◌≤◌, true, [], ◌++◌, length, take, drop, Some, MatchOption};
-ghost use Rattle.chain_lists.specs.Faults.{Beginning, complete, misshapen, number_in, record_fault, stated as stated-in};
+ghost use Rattle.chain_lists.specs.Faults.{Beginning, complete, misshapen, number_in, record_fault, stated as stated_in};
 ghost use Rattle.chain_lists.specs.Lists.{framed, kind_length};
 
 use chain_lists::Kind;
@@ -14,7 +14,7 @@ pub(crate) const FRAME: usize = 6;
 // The length that the first record of `rest` states.
 fn stated(rest: &[u8]) -> u32
     requires { 4 ≤ length rest.now }
-    ensures { result ≡ stated-in rest.now }
+    ensures { result ≡ stated_in rest.now }
 {
     u32::from_le_bytes([rest[0], rest[1], rest[2], rest[3]])
 }

@@ -6,7 +6,7 @@ use Rattle.chain_lists.specs.declared.Swap.{Swap}
 use Rattle.chain_lists.specs.declared.Total.{Total}
 use Rattle.chain_lists.specs.declared.Total.TheVariants.{Shift, Lamp}
 use Rattle.chain_lists.specs.Lists.{ChainList, Fitting, Holds, begun, with_swap, with_total, last_set, count_of, lawful_head, lawful_swap, total_kind, same_kind, stands, head_written, swap_written, total_written, end_written, front_of}
-use Rattle.chain_lists.proofs.Growth.{lawful_begun, front_begun, lawful-swap-more, front-swap-more, count_swap_more, lawful-total-more, front_total_more, stands-more, length_front_le, length_head_written, length_swap_written, length_end_written, length_shift_written, length_lamp_written}
+use Rattle.chain_lists.proofs.Growth.{lawful_begun, front_begun, lawful_swap_more, front_swap_more, count_swap_more, lawful_total_more, front_total_more, stands_more, length_front_le, length_head_written, length_swap_written, length_end_written, length_shift_written, length_lamp_written}
 use Rattle.chain_writer.specs.declared.states.Totals.{Totals}
 use Rattle.chain_writer.specs.Writing.{Holding, TotalsHolds, has_total, put_at, held_back}
 use Rattle.chain_writer.proofs.Splice.{Puts, length_put, take_put}
@@ -34,11 +34,11 @@ module _ (out : List ℕ) (at count : ℕ) (c : ChainList) (h : Holding out at c
 
 -- ---- the head and the exchanges
 
-pub hold-begun
+pub hold_begun
     : (n s : ℕ) (out : List ℕ)
     → lawful_head n s ≡ true → 65 ≤ length out
     → Holding (put_at 0 (head_written n s) out) (0 + length (head_written n s)) 1 (begun n s)
-hold-begun n s out l room =
+hold_begun n s out l room =
     let size = length_head_written n s in
     let fits : 0 + length (head_written n s) ≤ length out = omega arith in
     record {
@@ -49,22 +49,22 @@ hold-begun n s out l room =
       room = omega (arith, length_put 0 (head_written n s) out fits);
     }
 
-pub hold-swap
+pub hold_swap
     : (out : List ℕ) (at count : ℕ) (c : ChainList) (x : Swap)
     → Holding out at count c → c.totals ≡ []
     → lawful_swap c.n (last_set c.start c.swaps) x ≡ true
     → at + 58 ≤ length out → length out < 2 ^ 64
     → Holding (put_at at (swap_written x) out) (at + length (swap_written x)) ((count + 1) % 2 ^ 64) (with_swap c x)
-hold-swap out at count c x h none l room few =
+hold_swap out at count c x h none l room few =
     let size = length_swap_written x in
     let fits : at + length (swap_written x) ≤ length out = omega arith in
-    let more = front-swap-more c x none in
+    let more = front_swap_more c x none in
     let counted = count_swap_more c x in
     let long = length_front_le c in
     let small : count_of c + 1 < 2 ^ 64 = omega (arith, h.place) in
     let back : held_back c.totals ≡ 50 = ap held_back none in
     record {
-      lawful = lawful-swap-more c x h.lawful l small;
+      lawful = lawful_swap_more c x h.lawful l small;
       place = placed out at count c h (swap_written x) fits (with_swap c x) more;
       front = fronted out at count c h (swap_written x) fits (with_swap c x) more;
       counted = omega (arith, h.counted);
@@ -73,63 +73,63 @@ hold-swap out at count c x h none l room few =
 
 -- ---- totals
 
-pub more-shift
+pub more_shift
     : (ts : List Total) (t : Total) (across along : ℤ) → t ≡ Shift across along
     → (stands ShiftTotal (ts ++ t ∷ []) ≡ true) × (stands LampTotal (ts ++ t ∷ []) ≡ stands LampTotal ts)
-more-shift ts t across along e = (
-  stands-more ShiftTotal ts t ∙ ap (λ (u : Total). cond (same_kind (total_kind u) ShiftTotal) true (stands ShiftTotal ts)) e,
-  stands-more LampTotal ts t ∙ ap (λ (u : Total). cond (same_kind (total_kind u) LampTotal) true (stands LampTotal ts)) e,
+more_shift ts t across along e = (
+  stands_more ShiftTotal ts t ∙ ap (λ (u : Total). cond (same_kind (total_kind u) ShiftTotal) true (stands ShiftTotal ts)) e,
+  stands_more LampTotal ts t ∙ ap (λ (u : Total). cond (same_kind (total_kind u) LampTotal) true (stands LampTotal ts)) e,
 )
 
-pub more-lamp
+pub more_lamp
     : (ts : List Total) (t : Total) (word : ℕ) → t ≡ Lamp word
     → (stands ShiftTotal (ts ++ t ∷ []) ≡ stands ShiftTotal ts) × (stands LampTotal (ts ++ t ∷ []) ≡ true)
-more-lamp ts t word e = (
-  stands-more ShiftTotal ts t ∙ ap (λ (u : Total). cond (same_kind (total_kind u) ShiftTotal) true (stands ShiftTotal ts)) e,
-  stands-more LampTotal ts t ∙ ap (λ (u : Total). cond (same_kind (total_kind u) LampTotal) true (stands LampTotal ts)) e,
+more_lamp ts t word e = (
+  stands_more ShiftTotal ts t ∙ ap (λ (u : Total). cond (same_kind (total_kind u) ShiftTotal) true (stands ShiftTotal ts)) e,
+  stands_more LampTotal ts t ∙ ap (λ (u : Total). cond (same_kind (total_kind u) LampTotal) true (stands LampTotal ts)) e,
 )
 
 -- the total that is added leaves room for the others
-Back-more
+BackMore
     : (ts : List Total) (t : Total)
     → stands (total_kind t) ts ≡ false → held_back ts ≡ length (total_written t) + held_back (ts ++ t ∷ [])
-Back-more ts (Shift across along) h =
+BackMore ts (Shift across along) h =
     let shift : Bool → ℕ = λ b. cond b 0 22 in
     let lamp : Bool → ℕ = λ b. cond b 0 14 in
-    let more = more-shift ts (Shift across along) across along refl in
+    let more = more_shift ts (Shift across along) across along refl in
     let size = length_shift_written across along in
     let before : ◌≡◌ {A = ℕ} (cond (stands ShiftTotal ts) 0 22) 22 = ap shift h in
     let after : ◌≡◌ {A = ℕ} (cond (stands ShiftTotal (ts ++ Shift across along ∷ [])) 0 22) 0 = ap shift more.0 in
     let other : ◌≡◌ {A = ℕ} (cond (stands LampTotal (ts ++ Shift across along ∷ [])) 0 14) (cond (stands LampTotal ts) 0 14) = ap lamp more.1 in
     omega arith
-Back-more ts (Lamp word) h =
+BackMore ts (Lamp word) h =
     let shift : Bool → ℕ = λ b. cond b 0 22 in
     let lamp : Bool → ℕ = λ b. cond b 0 14 in
-    let more = more-lamp ts (Lamp word) word refl in
+    let more = more_lamp ts (Lamp word) word refl in
     let size = length_lamp_written word in
     let before : ◌≡◌ {A = ℕ} (cond (stands LampTotal ts) 0 14) 14 = ap lamp h in
     let after : ◌≡◌ {A = ℕ} (cond (stands LampTotal (ts ++ Lamp word ∷ [])) 0 14) 0 = ap lamp more.1 in
     let other : ◌≡◌ {A = ℕ} (cond (stands ShiftTotal (ts ++ Lamp word ∷ [])) 0 22) (cond (stands ShiftTotal ts) 0 22) = ap shift more.0 in
     omega arith
 
-pub room-total
+pub room_total
     : (out : List ℕ) (at count : ℕ) (c : ChainList) (t : Total)
     → Holding out at count c → stands (total_kind t) c.totals ≡ false → at + length (total_written t) ≤ length out
-room-total out at count c t h new = omega (arith, h.room, Back-more c.totals t new)
+room_total out at count c t h new = omega (arith, h.room, BackMore c.totals t new)
 
-pub hold-total
+pub hold_total
     : (out : List ℕ) (at count : ℕ) (c : ChainList) (t : Total)
     → Holding out at count c → stands (total_kind t) c.totals ≡ false → Fitting t
     → Holding (put_at at (total_written t) out) (at + length (total_written t)) count (with_total c t)
-hold-total out at count c t h new f =
-    let fits = room-total out at count c t h new in
+hold_total out at count c t h new f =
+    let fits = room_total out at count c t h new in
     let more = front_total_more c t in
     record {
-      lawful = lawful-total-more c t h.lawful new f;
+      lawful = lawful_total_more c t h.lawful new f;
       place = placed out at count c h (total_written t) fits (with_total c t) more;
       front = fronted out at count c h (total_written t) fits (with_total c t) more;
       counted = h.counted;
-      room = omega (arith, h.room, length_put at (total_written t) out fits, Back-more c.totals t new);
+      room = omega (arith, h.room, length_put at (total_written t) out fits, BackMore c.totals t new);
     }
 
 -- the total that a call puts in
@@ -138,50 +138,50 @@ pub totalled
     → Holding out at count c → stands (total_kind t) c.totals ≡ false → Fitting t → Puts at (total_written t) out out' r
     → Holding out' r count (with_total c t) × (out' ≡ put_at at (total_written t) out)
 totalled out out' at count r c t h new f p =
-    let q = p (room-total out at count c t h new) in (
-      moved out' (put_at at (total_written t) out) r (at + length (total_written t)) count (with_total c t) q.1 q.0 (hold-total out at count c t h new f),
+    let q = p (room_total out at count c t h new) in (
+      moved out' (put_at at (total_written t) out) r (at + length (total_written t)) count (with_total c t) q.1 q.0 (hold_total out at count c t h new f),
       q.1,
     )
 
 -- which totals stand after the first one, by what it is
-pub first-shift
+pub first_shift
     : (ts : List Total) (t : Total) (across along : ℤ) (p : Bool × Bool)
     → ts ≡ [] → t ≡ Shift across along → p ≡ (true, false)
     → (p.0 ≡ stands ShiftTotal (ts ++ t ∷ [])) × (p.1 ≡ stands LampTotal (ts ++ t ∷ []))
-first-shift ts t across along p none e f =
-    let more = more-shift ts t across along e in
+first_shift ts t across along p none e f =
+    let more = more_shift ts t across along e in
     (ap (λ (q : Bool × Bool). q.0) f ∙ sym more.0, ap (λ (q : Bool × Bool). q.1) f ∙ sym (more.1 ∙ ap (stands LampTotal) none))
 
-pub first-lamp
+pub first_lamp
     : (ts : List Total) (t : Total) (word : ℕ) (p : Bool × Bool)
     → ts ≡ [] → t ≡ Lamp word → p ≡ (false, true)
     → (p.0 ≡ stands ShiftTotal (ts ++ t ∷ [])) × (p.1 ≡ stands LampTotal (ts ++ t ∷ []))
-first-lamp ts t word p none e f =
-    let more = more-lamp ts t word e in
+first_lamp ts t word p none e f =
+    let more = more_lamp ts t word e in
     (ap (λ (q : Bool × Bool). q.0) f ∙ sym (more.0 ∙ ap (stands ShiftTotal) none), ap (λ (q : Bool × Bool). q.1) f ∙ sym more.1)
 
 -- a total of which no other of its kind was written
-pub new-total
+pub new_total
     : (w : Totals) (c : ChainList) (t : Total)
     → TotalsHolds w c → false ≡ has_total w t → stands (total_kind t) c.totals ≡ false
-new-total w c (Shift across along) h e = sym h.shift_stands ∙ sym e
-new-total w c (Lamp word) h e = sym h.lamp_stands ∙ sym e
+new_total w c (Shift across along) h e = sym h.shift_stands ∙ sym e
+new_total w c (Lamp word) h e = sym h.lamp_stands ∙ sym e
 
 -- ---- the end
 
-pub room-end
+pub room_end
     : (out : List ℕ) (at count : ℕ) (c : ChainList)
     → Holding out at count c → at + length (end_written count) ≤ length out
-room-end out at count c h = omega (arith, h.room, length_end_written count)
+room_end out at count c h = omega (arith, h.room, length_end_written count)
 
-pub holds-ended
+pub holds_ended
     : (out : List ℕ) (at count : ℕ) (c : ChainList)
     → Holding out at count c → Holds (take (at + length (end_written count)) (put_at at (end_written count) out)) c
-holds-ended out at count c h =
+holds_ended out at count c h =
     record {
       lawful = h.lawful;
       written =
-          take_put at (end_written count) out (room-end out at count c h)
+          take_put at (end_written count) out (room_end out at count c h)
           ∙ ap (λ (q : List ℕ). q ++ end_written count) h.front
           ∙ ap (λ (k : ℕ). front_of c ++ end_written k) h.counted;
     }
@@ -192,9 +192,9 @@ pub ended
     → Holding out at count c → Puts at (end_written count) out out' r
     → Holds (take r out') c × (r ≤ length out') × (r ≡ at + length (end_written count)) × (out' ≡ put_at at (end_written count) out)
 ended out out' at count r c h p =
-    let q = p (room-end out at count c h) in
-    let e = holds-ended out at count c h in
+    let q = p (room_end out at count c h) in
+    let e = holds_ended out at count c h in
     let f : Holds (take r out') c = record { lawful = e.lawful; written = ap (take r) q.1 ∙ ap (λ (k : ℕ). take k (put_at at (end_written count) out)) q.0 ∙ e.written } in
-    let room = room-end out at count c h in
+    let room = room_end out at count c h in
     let fits : r ≤ length out' = omega (arith, q.0, ap length q.1, length_put at (end_written count) out room, room) in
     (f, fits, q.0, q.1)

@@ -33,10 +33,10 @@ drop_put a ys xs h =
     ∙ drop_at (take a xs ++ ys) (drop (a + length ys) xs) (a + length ys) (length_before a ys xs low)
 
 -- bytes that are put in right after others are put in with them
-pub put-after
+pub put_after
     : (a : ℕ) (ys zs xs : List ℕ)
     → a + length ys ≤ length xs → put_at (a + length ys) zs (put_at a ys xs) ≡ put_at a (ys ++ zs) xs
-put-after a ys zs xs h =
+put_after a ys zs xs h =
     let b : ℕ = a + length ys in
     let same : a + length (ys ++ zs) ≡ b + length zs = omega (arith, length-append ys zs) in
     let front = take_put a ys xs h in
@@ -49,13 +49,13 @@ put-after a ys zs xs h =
     ∙ ap (λ (k : ℕ). take a xs ++ ((ys ++ zs) ++ drop k xs)) (sym same)
 
 -- the length, the kind and the body of a record, put in one after the other
-pub put-framed
+pub put_framed
     : (a : ℕ) (k : Kind) (body xs : List ℕ) (ls ks xs₁ xs₂ xs₃ : List ℕ)
     → a + length (framed k body) ≤ length xs
     → ls ≡ little 4 (kind_length k) → ks ≡ little 2 (kind_number k)
     → xs₁ ≡ put_at a ls xs → xs₂ ≡ put_at (a + 4) ks xs₁ → xs₃ ≡ put_at (a + 6) body xs₂
     → xs₃ ≡ put_at a (framed k body) xs
-put-framed a k body xs ls ks xs₁ xs₂ xs₃ h d e p q r =
+put_framed a k body xs ls ks xs₁ xs₂ xs₃ h d e p q r =
     let L : List ℕ = little 4 (kind_length k) in
     let K : List ℕ = little 2 (kind_number k) in
     let l4 = length_little 4 (kind_length k) in
@@ -67,27 +67,27 @@ put-framed a k body xs ls ks xs₁ xs₂ xs₃ h d e p q r =
     let one : xs₁ ≡ put_at a L xs = p ∙ ap (λ (q : List ℕ). put_at a q xs) d in
     let two : xs₂ ≡ put_at a (L ++ K) xs =
     q ∙ ap (λ (q : List ℕ). put_at (a + 4) q xs₁) e ∙ ap (put_at (a + 4) K) one ∙ ap (λ (j : ℕ). put_at j K (put_at a L xs)) b4
-    ∙ put-after a L K xs (omega arith) in
+    ∙ put_after a L K xs (omega arith) in
     let three : xs₃ ≡ put_at a ((L ++ K) ++ body) xs =
-    r ∙ ap (put_at (a + 6) body) two ∙ ap (λ (j : ℕ). put_at j body (put_at a (L ++ K) xs)) b6 ∙ put-after a (L ++ K) body xs (omega arith) in
+    r ∙ ap (put_at (a + 6) body) two ∙ ap (λ (j : ℕ). put_at j body (put_at a (L ++ K) xs)) b6 ∙ put_after a (L ++ K) body xs (omega arith) in
     three ∙ ap (λ (q : List ℕ). put_at a q xs) (append_assoc L K body)
 
 -- the bytes of a number, read one by one
-pub read-eight
+pub read_eight
     : (bs rest : List ℕ) (x : ℕ)
     → bs
     ≡ x % 256 ∷ x / 256 % 256 ∷ x / 65536 % 256 ∷ x / 16777216 % 256 ∷ x / 4294967296 % 256 ∷ x / 1099511627776 % 256 ∷ x / 281474976710656 % 256 ∷ x / 72057594037927936 % 256 ∷ []
     → get_or bs 0 0 ∷ get_or bs 1 0 ∷ get_or bs 2 0 ∷ get_or bs 3 0 ∷ get_or bs 4 0 ∷ get_or bs 5 0 ∷ get_or bs 6 0 ∷ get_or bs 7 0 ∷ rest
     ≡ little 8 x ++ rest
-read-eight bs rest x e =
+read_eight bs rest x e =
     ap (λ (q : List ℕ). get_or q 0 0 ∷ get_or q 1 0 ∷ get_or q 2 0 ∷ get_or q 3 0 ∷ get_or q 4 0 ∷ get_or q 5 0 ∷ get_or q 6 0 ∷ get_or q 7 0 ∷ rest) e
     ∙ ap (λ (q : List ℕ). q ++ rest) (sym (little_8 x))
 
 -- signed numbers, as a caller passes them
-pub eights-same
+pub eights_same
     : (x y : ℤ) → SFits w64 x → SFits w64 y
     → little 8 (of_z w64 (to_z w64 (of_z w64 x))) ++ little 8 (of_z w64 (to_z w64 (of_z w64 y))) ≡ little 8 (of_z w64 x) ++ little 8 (of_z w64 y)
-eights-same x y f g =
+eights_same x y f g =
     let eight : ℤ → List ℕ = λ z. little 8 (of_z w64 z) in
     ap (λ (z : ℤ). eight z ++ eight (to_z w64 (of_z w64 y))) (to_z-of_z w64 x f) ∙ ap (λ (z : ℤ). eight x ++ eight z) (to_z-of_z w64 y g)
 

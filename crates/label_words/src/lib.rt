@@ -4,7 +4,7 @@
 
 ghost use Rattle.std.specs.Prelude.{◌≡◌, ◌<◌, ◌≤◌, min, bit_or, bit_xor};
 ghost use Rattle.label_words.specs.Words.{word_of};
-ghost use Rattle.labels.specs.Sets.{full, has, reopened as reopened-at};
+ghost use Rattle.labels.specs.Sets.{full, has, reopened as reopened_at};
 
 /// How many labels a word can hold.
 const WIDTH: u8 = 64;
@@ -56,7 +56,7 @@ pub fn full_to(n: u8) -> u64
 
 /// The active labels after an exchange at `label`: all below it, not itself, and those above as they were.
 pub fn reopened(active: u64, label: u8) -> u64
-    ensures inside { label ≤ 64 → result ≡ reopened-at active label }
+    ensures inside { label ≤ 64 → result ≡ reopened_at active label }
     ensures beyond { 64 < label → result ≡ full 64 }
 {
     (active & !full_to(label)) | full_to(label.saturating_sub(1))

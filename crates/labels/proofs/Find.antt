@@ -51,8 +51,8 @@ lowest t (suc n) = go (lowest t n) (cases_Bool (t n))
 
 -- ---- induction: from a set with a member removed to the set
 
-pub set-ind {ℓ} : (P : ℕ → Type ℓ) → P 0 → ((s e : ℕ) → has s e ≡ true → ((f : ℕ) → e < f → has s f ≡ false) → P (remove s e) → P s) → (s : ℕ) → P s
-set-ind P base step s = go (card s) s refl
+pub set_ind {ℓ} : (P : ℕ → Type ℓ) → P 0 → ((s e : ℕ) → has s e ≡ true → ((f : ℕ) → e < f → has s f ≡ false) → P (remove s e) → P s) → (s : ℕ) → P s
+set_ind P base step s = go (card s) s refl
   where
     go : (n : ℕ) (s : ℕ) → card s ≡ n → P s
     go zero s h = subst P (sym (card_none s h)) base
@@ -73,8 +73,8 @@ lowest_member s h = go (some s h)
         pick (inr f) = let q = f e₀ (omega arith) in absurd (grind arith)
 
 -- the same induction by the lowest member
-pub set-ind-low {ℓ} : (P : ℕ → Type ℓ) → P 0 → ((s e : ℕ) → has s e ≡ true → ((f : ℕ) → f < e → has s f ≡ false) → P (remove s e) → P s) → (s : ℕ) → P s
-set-ind-low P base step s = go (card s) s refl
+pub set_ind_low {ℓ} : (P : ℕ → Type ℓ) → P 0 → ((s e : ℕ) → has s e ≡ true → ((f : ℕ) → f < e → has s f ≡ false) → P (remove s e) → P s) → (s : ℕ) → P s
+set_ind_low P base step s = go (card s) s refl
   where
     go : (n : ℕ) (s : ℕ) → card s ≡ n → P s
     go zero s h = subst P (sym (card_none s h)) base

@@ -1,6 +1,6 @@
 ghost use Rattle.std.specs.Prelude.{◌≡◌, ℕ, bit_or};
 ghost use Rattle.layer_laws.specs.Layers.{minor, pinned};
-ghost use Rattle.matroid_laws.specs.Greedy.{greedy as greedy-of};
+ghost use Rattle.matroid_laws.specs.Greedy.{greedy as greedy_of};
 ghost use Rattle.layer_laws.proofs.Minor.{pinned_is};
 ghost use Rattle.std.proofs.Common.{rules};
 
@@ -20,7 +20,7 @@ impl<P: Matroid> Minor<P> {
     /// going through them upwards, each that leaves the held set independent.
     pub fn new(below: P, contracted: u64, deleted: u64) -> Minor<P>
         ensures below { result.below ≡ below }
-        ensures held { result.held ≡ greedy-of (P.Matroid.size below) (P.Matroid.independent below) contracted }
+        ensures held { result.held ≡ greedy_of (P.Matroid.size below) (P.Matroid.independent below) contracted }
         ensures removed { result.removed ≡ bit_or contracted deleted }
         ensures family { (s : ℕ) → pinned (P.Matroid.independent result.below) result.held result.removed s
             ≡ minor (P.Matroid.size below) (P.Matroid.independent below) contracted deleted s }

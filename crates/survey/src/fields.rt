@@ -2,7 +2,7 @@
 ghost use Rattle.std.specs.Prelude.{◌≡◌, ◌≤◌, length};
 ghost use Rattle.std.specs.Option.{option_map};
 ghost use Rattle.survey_laws.specs.Sheets.{comma};
-ghost use Rattle.survey_laws.specs.Check.{until as bytes-until, before, after, row_from, row_in};
+ghost use Rattle.survey_laws.specs.Check.{until as bytes_until, before, after, row_from, row_in};
 ghost use Rattle.survey.specs.View.{fields_of};
 
 use crate::numerals::{number, shift};
@@ -20,7 +20,7 @@ pub struct Fields {
 
 /// How many bytes stand before the first `b`, or all of them if there is none.
 pub fn until(s: &[u8], b: u8) -> usize
-    ensures is { result ≡ bytes-until b s.now }
+    ensures is { result ≡ bytes_until b s.now }
     ensures within { result ≤ length s.now }
 {
     for i in 0..s.len() {

@@ -1,6 +1,6 @@
 //! The reading of a text, row by row.
 ghost use Rattle.std.specs.Prelude.{◌≡◌, ◌+◌, ◌≤◌, length, drop};
-ghost use Rattle.survey_laws.specs.Check.{lines, read_rows as rows-read, check};
+ghost use Rattle.survey_laws.specs.Check.{lines, read_rows as rows_read, check};
 ghost use Rattle.survey_laws.specs.Laws.{AcceptsExactly, FrontDecides, RefusesFirst, Short};
 ghost use Rattle.survey.specs.View.{rows_of, outcome};
 
@@ -14,7 +14,7 @@ const LINE_FEED: u8 = b'\n';
 // The rows of the text from place `start` on, after the rows of the survey.
 fn read_rows(text: &[u8], start: usize, kept: Survey) -> Result<Survey, Refusal>
     requires { start ≤ length text.now + 1 }
-    ensures { outcome result ≡ rows-read kept.points (rows_of kept) (lines (drop start text.now)) }
+    ensures { outcome result ≡ rows_read kept.points (rows_of kept) (lines (drop start text.now)) }
 {
     let mut survey = kept;
     let mut at = start;

@@ -2,7 +2,7 @@ use Rattle.std.proofs.Common.{◌≡◌, sym, ap, ◌∙◌, arith}
 use Rattle.std.proofs.lemmas.Bool.Decides.{nat_tests}
 use Rattle.chain_lists.specs.Lists.{kind_length, kind_number, little}
 use Rattle.chain_lists.proofs.Bytes.{length_framed, little_2, little_4}
-use Rattle.chain_writer.proofs.Splice.{put-framed}
+use Rattle.chain_writer.proofs.Splice.{put_framed}
 use Rattle.chain_writer.proofs.putting.put_record.Goals as goal
 use Rattle.chain_writer.proofs.putting.put_record.Goals.{then-body-out-via-then-body-out, then-body-out-via-else-body-out+then-not-has_room}
 
@@ -31,6 +31,6 @@ returns c =
           λ h.
           let k = length_framed c.args.kind c.args.body.now in (
             omega arith,
-            put-framed c.args.at c.args.kind c.args.body.now c.args.out.now _ _ _ _ _ h b1 b2 c.put.ensures c.put-2.ensures c.put-3.ensures,
+            put_framed c.args.at c.args.kind c.args.body.now c.args.out.now _ _ _ _ _ h b1 b2 c.put.ensures c.put-2.ensures c.put-3.ensures,
           );
     }

@@ -4,7 +4,7 @@ use Rattle.chain_lists.specs.declared.Kind.TheVariants.{Head}
 use Rattle.chain_lists.specs.Lists.{begun, framed, head_written, lawful_head}
 use Rattle.chain_lists.proofs.Growth.{length_head_written}
 use Rattle.chain_writer.specs.Writing.{put_at}
-use Rattle.chain_writer.proofs.Holdings.{hold-begun, moved}
+use Rattle.chain_writer.proofs.Holdings.{hold_begun, moved}
 use Rattle.chain_writer.proofs.Splice.{puts_same}
 use Rattle.chain_writer.proofs.writing.begin.Goals as goal
 
@@ -23,7 +23,7 @@ returns c =
         cond-true (lawful_head n s) _ _ l ∙ cond-true (leb 65 (length out)) _ _ k,
         p.1,
         record {
-          holding = moved _ (put_at 0 (head_written n s) out) _ (0 + length (head_written n s)) 1 (begun n s) p.1 p.0 (hold-begun n s out l room);
+          holding = moved _ (put_at 0 (head_written n s) out) _ (0 + length (head_written n s)) 1 (begun n s) p.1 p.0 (hold_begun n s out l room);
           labels = refl;
           set = refl;
           no_totals = refl;

@@ -8,7 +8,7 @@ use Rattle.chain_lists.specs.Faults.{bytes_of}
 use Rattle.chain_records.specs.Records.{left_of}
 use Rattle.chain_records.proofs.Frames.{nothing_left}
 use Rattle.chain_reader.specs.Reading.{Known, StageAfter, end_of, entry_written, extended}
-use Rattle.chain_reader.proofs.Runs.{refused-here, ended_well, fault_next, framed-fault, framed_some, goes-behind}
+use Rattle.chain_reader.proofs.Runs.{refused_here, ended_well, fault_next, framed_fault, framed_some, goes_behind}
 use Rattle.chain_reader.proofs.states.ListReader.next.Goals as goal
 
 pub returns-then-is_empty : goal.returns-then-is_empty
@@ -30,7 +30,7 @@ returns-in_err-record c =
       file = refl;
       reads = λ b h.
           rw (p.1, p.2)
-          (refused-here _ b _ _ _ h.lawful h.made (k.0 ∙ h.place) (fault_next b _ _ h.stage c.in_default.not-Ended k.1 ∙ k.2 b), h);
+          (refused_here _ b _ _ _ h.lawful h.made (k.0 ∙ h.place) (fault_next b _ _ h.stage c.in_default.not-Ended k.1 ∙ k.2 b), h);
     }
 
 pub returns-in_err-step : goal.returns-in_err-step
@@ -46,8 +46,8 @@ returns-in_err-step c =
           let judged = c.in_err-step.ensures b known in
           let rest : left_of c.args.self.now.records ≡ framed x.kind x.body.now ++ left_of c.next.new.self =
           k.4 ∙ ap (λ (ys : List ℕ). ys ++ left_of c.next.new.self) k.2 in
-          let fault = fault_next b _ _ h.stage c.in_default.not-Ended (framed_some _ _ _ _ rest) ∙ framed-fault b x.kind x.body.now _ _ k.3 rest ∙ judged.0 in
-          rw (p.1, p.2) (refused-here _ b _ _ _ h.lawful h.made (judged.1 ∙ at) fault, h);
+          let fault = fault_next b _ _ h.stage c.in_default.not-Ended (framed_some _ _ _ _ rest) ∙ framed_fault b x.kind x.body.now _ _ k.3 rest ∙ judged.0 in
+          rw (p.1, p.2) (refused_here _ b _ _ _ h.lawful h.made (judged.1 ∙ at) fault, h);
     }
 
 pub returns : goal.returns
@@ -74,7 +74,7 @@ returns c =
               lawful = says.lawful;
               made = c.in_ok-record.ensures.file ∙ h.made ∙ grown;
               place = k.5
-                  ∙ goes-behind b (extended b e) x.kind x.body.now _ k.3 whole says.swaps h.place;
+                  ∙ goes_behind b (extended b e) x.kind x.body.now _ k.3 whole says.swaps h.place;
               stage = says.stage;
             },
             says.told,

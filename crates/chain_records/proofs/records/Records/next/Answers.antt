@@ -4,7 +4,7 @@ use Rattle.chain_lists.specs.declared.Spot.{Spot}
 use Rattle.chain_lists.specs.Lists.{kind_length}
 use Rattle.chain_lists.specs.Faults.{complete, record_fault}
 use Rattle.chain_records.specs.Records.{left_of}
-use Rattle.chain_records.proofs.Frames.{nothing_left, some_left, cut_fault, Cut-record}
+use Rattle.chain_records.proofs.Frames.{nothing_left, some_left, cut_fault, CutRecord}
 use Rattle.chain_records.proofs.records.Records.next.Goals as goal
 
 pub returns-then-is_empty : goal.returns-then-is_empty
@@ -35,7 +35,7 @@ returns c =
     let s = c.args.self.now in
     let e : take (length s.file.now - s.at) (drop s.at s.file.now) ≡ left_of s = take_rest s.file.now s.at in
     let k = c.in-Some.kind in
-    let cut = Cut-record (take (length s.file.now - s.at) (drop s.at s.file.now)) k c.length.result c.length.ensures c.in-Some.ensures.0 c.in-Some.ensures.1 in
+    let cut = CutRecord (take (length s.file.now - s.at) (drop s.at s.file.now)) k c.length.result c.length.ensures c.in-Some.ensures.0 c.in-Some.ensures.1 in
     let at : c.pass.new.self.at ≡ s.at + (4 + kind_length k) = ap (λ (p : Spot). p.byte) c.pass.ensures.place in
     let onwards : left_of c.pass.new.self ≡ drop (4 + kind_length k) (left_of s) = ap (λ (f : List ℕ). drop c.pass.new.self.at f) c.pass.ensures.file ∙ ap (λ (i : ℕ). drop i s.file.now) at ∙ sym (drop-drop (4 + kind_length k) s.at s.file.now) in
     let size : 4 + c.length.result ≡ 4 + kind_length k = ap (λ (n : ℕ). 4 + n) c.length.ensures in

@@ -6,7 +6,7 @@ use Rattle.chain_lists.specs.Lists.{after, last_set, lawful_swap, swap_written, 
 use Rattle.chain_lists.proofs.Growth.{last_set_more, length_swap_written}
 use Rattle.chain_lists.proofs.Lawful.{head_tells}
 use Rattle.chain_writer.specs.Writing.{put_at}
-use Rattle.chain_writer.proofs.Holdings.{hold-swap, moved}
+use Rattle.chain_writer.proofs.Holdings.{hold_swap, moved}
 use Rattle.chain_writer.proofs.states.Open.exchange.Goals as goal
 
 pub returns : goal.returns
@@ -34,7 +34,7 @@ returns c =
           record {
             holding =
                 moved _ (put_at s.at (swap_written x) out) _ (s.at + length (swap_written x)) _ (with_swap d x) p.1 p.0
-                (hold-swap out s.at s.count d x h.holding h.no_totals lawful room few);
+                (hold_swap out s.at s.count d x h.holding h.no_totals lawful room few);
             labels = h.labels;
             set = c.after-self.ensures.lawful s.n labels l ∙ ap (λ (t : ℕ). after t x) h.set ∙ sym (last_set_more d.start d.swaps x);
             no_totals = h.no_totals;

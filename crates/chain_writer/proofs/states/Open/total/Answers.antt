@@ -2,7 +2,7 @@ use Rattle.std.proofs.Common.{◌≡◌, false, [], ◌∷◌, ◌++◌, ap}
 use Rattle.chain_lists.specs.declared.Kind.TheVariants.{ShiftTotal, LampTotal}
 use Rattle.chain_lists.specs.declared.Total.{Total}
 use Rattle.chain_lists.specs.Lists.{stands, total_kind}
-use Rattle.chain_writer.proofs.Holdings.{first-lamp, first-shift, totalled}
+use Rattle.chain_writer.proofs.Holdings.{first_lamp, first_shift, totalled}
 use Rattle.chain_writer.proofs.states.Open.total.Goals as goal
 use Rattle.chain_writer.proofs.states.Open.total.Goals.{in-Lamp, in-Shift}
 
@@ -16,7 +16,7 @@ returns c =
     let flags
     : (c.match-total.shift.0 ≡ stands ShiftTotal (d.totals ++ t ∷ [])) × (c.match-total.shift.1 ≡ stands LampTotal (d.totals ++ t ∷ [])) =
     elim c.match-total.branch [
-      | in-Shift w ↦ first-shift d.totals t w.in-Shift.field-0 w.in-Shift.field-1 c.match-total.shift h.no_totals w.in-Shift.is w.shift-is
-      | in-Lamp w ↦ first-lamp d.totals t w.in-Lamp.field-0 c.match-total.shift h.no_totals w.in-Lamp.is w.shift-is
+      | in-Shift w ↦ first_shift d.totals t w.in-Shift.field-0 w.in-Shift.field-1 c.match-total.shift h.no_totals w.in-Shift.is w.shift-is
+      | in-Lamp w ↦ first_lamp d.totals t w.in-Lamp.field-0 c.match-total.shift h.no_totals w.in-Lamp.is w.shift-is
     ] in
     (record { holding = p.0; shift_stands = flags.0; lamp_stands = flags.1 }, p.1)
