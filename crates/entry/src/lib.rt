@@ -4,7 +4,7 @@
 ghost use Rattle.entry.specs.Numbers.{entry_number};
 ghost use Rattle.std.specs.Prelude.{◌≡◌};
 
-/// The most points that a graph can have; `most-points` in clauses.
+/// The most points that a graph can have; `most_points` in clauses.
 pub const MOST_POINTS: u8 = 32;
 
 /// Why an entry was refused.
