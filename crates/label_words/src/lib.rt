@@ -6,6 +6,10 @@ ghost use Rattle.std.specs.Prelude.{◌≡◌, ◌<◌, ◌≤◌, min, bit_or, 
 ghost use Rattle.label_words.specs.Words.{word_of};
 ghost use Rattle.labels.specs.Sets.{full, has, reopened as reopened_at};
 
+mod upwards;
+
+pub use upwards::{Labels, labels_of};
+
 /// How many labels a word can hold.
 const WIDTH: u8 = 64;
 
@@ -60,4 +64,21 @@ pub fn reopened(active: u64, label: u8) -> u64
     ensures beyond { 64 < label → result ≡ full 64 }
 {
     (active & !full_to(label)) | full_to(label.saturating_sub(1))
+}
+
+#[cfg(test)]
+mod tests {
+    use super::*;
+
+    #[test]
+    fn labels_upwards(rt: HostRuntime) {
+        let mut ends = labels_of(1 << 63 | 1 << 9 | 1);
+        assert_eq!(rt; ends.next(), Some(1));
+        assert_eq!(rt; ends.next(), Some(10));
+        assert_eq!(rt; ends.next(), Some(64));
+        assert_eq!(rt; ends.next(), None);
+        assert_eq!(rt; ends.next(), None);
+        assert_eq!(rt; labels_of(0).next(), None);
+        assert_eq!(rt; labels_of(u64::MAX).count(), 64);
+    }
 }

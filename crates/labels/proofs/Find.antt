@@ -1,5 +1,5 @@
 -- A label that passes a test, or that none does; induction on sets.
-use Rattle.std.proofs.Common.{◌≡◌, ℕ, zero, suc, ◌+◌, ◌<◌, ◌≤◌, Bool, true, false, ◌⊎◌, sym, refl, ap, ◌∙◌, subst, inl, inr, add-one, arith}
+use Rattle.std.proofs.Common.{◌≡◌, ℕ, zero, suc, ◌+◌, ◌<◌, ◌≤◌, Bool, true, false, ◌⊎◌, sym, refl, ap, ◌∙◌, subst, not, ◌&&◌, ap₂, inl, inr, add-one, arith}
 use native.Mathlib.Decide.{ℕ_discrete}
 use Rattle.std.proofs.lemmas.Bool.{cases_Bool}
 use Rattle.labels.specs.Sets.{has, card, remove, no_label}
@@ -111,3 +111,7 @@ some_label t n e l g h = go (no_label t n) refl
     go : (x : Bool) → no_label t n ≡ x → x ≡ false
     go false z = refl
     go true z = let r = no_label_tells t n z e l g in absurd (grind arith)
+
+pub no_label_same : (t u : ℕ → Bool) (n : ℕ) → ((e : ℕ) → 1 ≤ e → e ≤ n → t e ≡ u e) → no_label t n ≡ no_label u n
+no_label_same t u zero h = refl
+no_label_same t u (suc n) h = ap₂ (λ (x y : Bool). not x && y) (h (suc n) (omega arith) (omega arith)) (no_label_same t u n (λ e l g. h e l (omega arith)))

@@ -1,3 +1,4 @@
+pub mod Upwards
 pub mod Member
 pub mod Card
 pub mod Words

@@ -6,7 +6,7 @@ use Rattle.std.proofs.lemmas.Bool.Decides.{nat_tests}
 use Rattle.std.proofs.lemmas.Bool.{cases_Bool}
 use Rattle.std.proofs.lemmas.Nat.{one_shl, shr-shr, pow_below}
 use Rattle.labels.specs.Sets.{bit, has, single, difference}
-use Rattle.labels.proofs.Member.{bit_up, bit_low, bit_above, bit_and_not, has_difference, members}
+use Rattle.labels.proofs.Member.{bit_up, bit_low, bit_above, bit_not, bit_and_not, has_difference, members}
 use Rattle.labels.proofs.Card.{ext}
 
 -- `1 << (e - 1)`
@@ -100,3 +100,9 @@ trailing_is w s h l =
     under_all : ((k : ℕ) → k < count_trailing_zeros w s → bit s k ≡ false) → (e : ℕ) → e < suc (count_trailing_zeros w s) → has s e ≡ false
     under_all f zero g = refl
     under_all f (suc k) g = f k (omega arith)
+
+-- `!s`
+pub has_outside : (s e : ℕ) → s < 2 ^ 64 → 1 ≤ e → e ≤ 64 → has (18446744073709551615 - s) e ≡ not (has s e)
+unfolding has
+has_outside s zero h l g = absurd (omega arith)
+has_outside s (suc k) h l g = let b = bit_not 64 s k h in grind (arith, nat_tests)

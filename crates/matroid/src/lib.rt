@@ -5,5 +5,5 @@
 mod bases;
 mod interface;
 
-pub use bases::{greedy, is_base, rank, start};
+pub use bases::{greedy, is_base, none_joins, rank, start};
 pub use interface::Matroid;

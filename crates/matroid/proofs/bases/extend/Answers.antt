@@ -1,29 +1,13 @@
-use Rattle.std.proofs.Common.{◌+◌, ◌≤◌, sym, ap, ◌∙◌, arith}
-use Rattle.matroid_laws.specs.Greedy.{extended}
-use Rattle.label_words.proofs.Held.{insert_is}
-use Rattle.matroid.proofs.Turns.{extends_none, joins, barred, skipped}
-use Rattle.matroid.proofs.bases.extend.Goals.{then-contains+then-is_independent, then-contains+else-is_independent, else-contains}
+use Rattle.std.proofs.Common.{◌≡◌, ℕ, sym, ap, ◌∙◌, arith}
+use Rattle.std.specs.List.{fold}
+use Rattle.label_words.specs.Upwards.{left_of}
+use Rattle.label_words.proofs.Ascending.{listed_to}
+use Rattle.matroid.proofs.Turns.{kept, extends}
 use Rattle.matroid.proofs.bases.extend.Goals as goal
 
-pub loop-i-init : goal.loop-i-init
-loop-i-init g c = extends_none (g.M.Matroid.independent c.args.matroid.now) c.args.set c.args.first
-
-pub loop-i-preserved : goal.loop-i-preserved
-loop-i-preserved g c =
-    let f = g.M.Matroid.independent c.args.matroid.now in let s = c.args.set in let k = c.args.first in
-    let i = c.loop-i.i in let h = c.loop-i.held in let inv = c.loop-i.invariant in
-    let few = g.met.M.Matroid.few c.args.matroid.now in let size = c.size-i-end.ensures in
-    let small : i + 1 ≤ 64 = omega arith in
-    elim c.if-contains.branch [
-      | then-contains+then-is_independent w ↦
-          let more = insert_is h (i + 1) _ (omega arith) small w.inserted-more.ensures in
-          w.held-is ∙ more ∙ joins f s k i h inv (sym c.contains.ensures ∙ w.if-contains.true) (sym (ap f more) ∙ sym w.is_independent.ensures ∙ w.if-is_independent.true)
-      | then-contains+else-is_independent w ↦
-          let more = insert_is h (i + 1) _ (omega arith) small w.inserted-more.ensures in
-          w.held-is ∙ barred f s k i h inv (sym c.contains.ensures ∙ w.if-contains.true) (sym (ap f more) ∙ sym w.is_independent.ensures ∙ w.if-is_independent.false)
-      | else-contains w ↦ w.held-is ∙ skipped f s k i h inv (sym c.contains.ensures ∙ w.if-contains.false)
-    ]
-
-pub returns : goal.returns
-returns g c =
-    c.loop-i.invariant ∙ ap (extended (g.M.Matroid.independent c.args.matroid.now) c.args.set c.args.first) (omega (arith, c.size-i-end.ensures))
+pub loop-label-init : goal.loop-label-init
+loop-label-init g c =
+    let m = c.args.matroid.now in let f = g.M.Matroid.independent m in let n = g.M.Matroid.size m in
+    let few = g.met.M.Matroid.few m in let k = c.args.first in
+    let all = ap left_of c.into_iter-label-iterator.ensures.into_iter_gives ∙ c.labels_of-label-items.ensures ∙ listed_to c.args.set n _ _ (omega arith) c.size.ensures c.full_to.ensures in
+    extends f c.args.set k n (omega arith) ∙ ap (fold (kept f) k) (sym all)

@@ -1,0 +1,38 @@
+-- The labels of a word, upwards: the lowest and those that are left, and those of 1..n alone.
+use Rattle.std.proofs.Common.{◌≡◌, ℕ, suc, ◌+◌, ◌-◌, ◌*◌, ◌%◌, ◌^◌, ◌<◌, ◌≤◌, min, true, false, List, ◌∷◌, sym, ◌∙◌, ap, arith}
+use lib.Bits.{bit_and, bit_xor}
+use lib.Count.{count_trailing_zeros}
+use Rattle.std.proofs.lemmas.Bool.Decides.{nat_tests}
+use Rattle.labels.specs.Sets.{has, single, full}
+use Rattle.labels.specs.Listed.{labels_in}
+use Rattle.labels.proofs.Member.{has_above, members}
+use Rattle.labels.proofs.Words.{shl_is, trailing_is}
+use Rattle.labels.proofs.Upwards.{labels_lowest, labels_cut}
+
+lowest_fits : (s : ℕ) → 0 < s → s < 2 ^ 64 → count_trailing_zeros 64 s + 1 ≤ 64
+lowest_fits s l h = go (trailing_is 64 s l h).0
+  where
+    go : has s (count_trailing_zeros 64 s + 1) ≡ true → count_trailing_zeros 64 s + 1 ≤ 64
+    go t = let q = has_above 64 s (count_trailing_zeros 64 s + 1) h in grind (arith, t)
+
+pub takes_lowest : (s : ℕ) → 0 < s → s < 2 ^ 64
+    → labels_in s 64 ≡ (count_trailing_zeros 64 s + 1) ∷ labels_in (bit_xor s (single (count_trailing_zeros 64 s + 1))) 64
+takes_lowest s l h = go (count_trailing_zeros 64 s + 1) (omega arith) (lowest_fits s l h) (trailing_is 64 s l h)
+  where
+    go : (e : ℕ) → 1 ≤ e → e ≤ 64 → (has s e ≡ true) × ((f : ℕ) → f < e → has s f ≡ false) → labels_in s 64 ≡ e ∷ labels_in (bit_xor s (single e)) 64
+    go e g k t = labels_lowest s (bit_xor s (single e)) e 64 g
+        k
+        t.0 t.1
+        (λ f i. let u = t.0 in let v = t.1 f in grind (arith, members, nat_tests))
+        (λ f i. grind (arith, members, nat_tests))
+
+-- the same, with the bit of that label as the code makes it
+pub next_is : (s : ℕ) → 0 < s → s < 2 ^ 64
+    → labels_in s 64 ≡ (count_trailing_zeros 64 s + 1) ∷ labels_in (bit_xor s ((1 * 2 ^ (count_trailing_zeros 64 s + 1 - 1)) % 2 ^ 64)) 64
+next_is s l h = takes_lowest s l h ∙ ap (λ (x : ℕ). (count_trailing_zeros 64 s + 1) ∷ labels_in (bit_xor s x) 64) (sym (shl_is 64 (count_trailing_zeros 64 s + 1) (omega arith) (lowest_fits s l h)))
+
+-- `labels_of(s & full_to(m))` hands out the labels of s among 1..n
+pub listed_to : (s n m w : ℕ) → n ≤ 64 → m ≡ n → w ≡ full (min m 64) → labels_in (bit_and s w) 64 ≡ labels_in s n
+listed_to s n m w h k q =
+    let z : min m 64 ≡ n = omega arith in
+    ap (λ (x : ℕ). labels_in (bit_and s x) 64) (q ∙ ap full z) ∙ labels_cut s n 64 h

@@ -1,0 +1,79 @@
+-- The labels of a set as a list: empty where there is none, and else the lowest one before the others.
+use Rattle.std.proofs.Common.{◌≡◌, ℕ, zero, suc, ◌<◌, ◌≤◌, Bool, true, false, cond, not, ◌&&◌, List, [], ◌∷◌, ◌++◌, sym, refl, ap, ◌∙◌, ap₂, arith}
+use native.Mathlib.Decide.{ℕ_discrete}
+use lib.Bits.{bit_and}
+use Rattle.std.specs.List.{list_all, fold}
+use Rattle.std.proofs.lemmas.Bool.Decides.{nat_tests}
+use Rattle.std.proofs.lemmas.List.Folds.{list_all-append}
+use Rattle.std.proofs.lemmas.List.Sums.{fold-append}
+use Rattle.labels.specs.Sets.{has, full, no_label}
+use Rattle.labels.proofs.Member.{has_full, members}
+use Rattle.labels.specs.Listed.{labels_in}
+
+-- what the label n adds
+abbrev also : ℕ → Bool → List ℕ → List ℕ
+also n b es = cond b (es ++ n ∷ []) es
+
+pub labels_none : (s n : ℕ) → ((e : ℕ) → e ≤ n → has s e ≡ false) → labels_in s n ≡ []
+unfolding labels_in
+labels_none s zero h = refl
+labels_none s (suc n) h = ap (λ (b : Bool). also (suc n) b (labels_in s n)) (h (suc n) (omega arith)) ∙ labels_none s n (λ e l. h e (omega arith))
+
+pub labels_same : (s t n : ℕ) → ((e : ℕ) → 1 ≤ e → e ≤ n → has s e ≡ has t e) → labels_in s n ≡ labels_in t n
+unfolding labels_in
+labels_same s t zero h = refl
+labels_same s t (suc n) h = ap₂ (also (suc n)) (h (suc n) (omega arith) (omega arith)) (labels_same s t n (λ e l g. h e l (omega arith)))
+
+-- t has the labels of s but for the lowest one
+pub labels_lowest : (s t e n : ℕ) → 1 ≤ e → e ≤ n → has s e ≡ true → ((f : ℕ) → f < e → has s f ≡ false)
+    → ((f : ℕ) → f ≤ e → has t f ≡ false) → ((f : ℕ) → e < f → has t f ≡ has s f) → labels_in s n ≡ e ∷ labels_in t n
+unfolding labels_in
+labels_lowest s t e zero l g h low gone same = absurd (omega arith)
+labels_lowest s t e (suc n) l g h low gone same = go (ℕ_discrete e (suc n)) (λ k. labels_lowest s t e n l k h low gone same)
+  where
+    after : (b : Bool) → also (suc n) b (e ∷ labels_in t n) ≡ e ∷ also (suc n) b (labels_in t n)
+    after true = refl
+    after false = refl
+
+    go : Dec (e ≡ suc n) → (e ≤ n → labels_in s n ≡ e ∷ labels_in t n) → also (suc n) (has s (suc n)) (labels_in s n) ≡ e ∷ also (suc n) (has t (suc n)) (labels_in t n)
+    go (yes q) ih =
+        ap₂ (also (suc n)) (ap (has s) (sym q) ∙ h) (labels_none s n (λ f k. low f (omega arith)))
+        ∙ ap (λ (x : ℕ). x ∷ []) (sym q)
+        ∙ ap (λ (es : List ℕ). e ∷ es) (sym (ap₂ (also (suc n)) (gone (suc n) (omega arith)) (labels_none t n (λ f k. gone f (omega arith)))))
+    go (no q) ih = ap₂ (also (suc n)) (sym (same (suc n) (omega arith))) (ih (omega arith)) ∙ after (has t (suc n))
+
+-- ---- labels above n are not listed
+
+pub labels_cut : (s n m : ℕ) → n ≤ m → labels_in (bit_and s (full n)) m ≡ labels_in s n
+unfolding labels_in
+labels_cut s zero zero h = refl
+labels_cut s (suc n) zero h = absurd (omega arith)
+labels_cut s n (suc m) h = go (ℕ_discrete n (suc m)) (labels_cut s n m)
+  where
+    go : Dec (n ≡ suc m) → (n ≤ m → labels_in (bit_and s (full n)) m ≡ labels_in s n) → also (suc m) (has (bit_and s (full n)) (suc m)) (labels_in (bit_and s (full n)) m) ≡ labels_in s n
+    go (yes q) ih = labels_same (bit_and s (full n)) s (suc m) (λ e l g. let w = has_full n e in grind (arith, members, nat_tests)) ∙ ap (labels_in s) (sym q)
+    go (no q) ih =
+        let w = has_full n (suc m) in
+        let above : has (bit_and s (full n)) (suc m) ≡ false = grind (arith, members, nat_tests) in
+        ap (λ (b : Bool). also (suc m) b (labels_in (bit_and s (full n)) m)) above ∙ ih (omega arith)
+
+-- ---- a test of each listed label, and one label more at the end
+
+-- where t passes just the labels of s that fail p
+pub no_label_listed : (t p : ℕ → Bool) (s n : ℕ) → ((e : ℕ) → 1 ≤ e → e ≤ n → t e ≡ (has s e && not (p e))) → no_label t n ≡ list_all p (labels_in s n)
+unfolding labels_in
+no_label_listed t p s zero h = refl
+no_label_listed t p s (suc n) h = go (has s (suc n)) (h (suc n) (omega arith) (omega arith)) (no_label_listed t p s n (λ e l g. h e l (omega arith)))
+  where
+    go : (b : Bool) → t (suc n) ≡ (b && not (p (suc n))) → no_label t n ≡ list_all p (labels_in s n) → (not (t (suc n)) && no_label t n) ≡ list_all p (also (suc n) b (labels_in s n))
+    go true q ih = let r = list_all-append p (labels_in s n) (suc n ∷ []) in grind arith
+    go false q ih = grind arith
+
+-- a fold over the labels takes a label of the set at the end
+pub fold_labels : {B : Type 0} (h : B → ℕ → B) (z : B) (s n : ℕ) → fold h z (labels_in s (suc n)) ≡ cond (has s (suc n)) (h (fold h z (labels_in s n)) (suc n)) (fold h z (labels_in s n))
+unfolding labels_in
+fold_labels h z s n = go (has s (suc n))
+  where
+    go : (b : Bool) → fold h z (also (suc n) b (labels_in s n)) ≡ cond b (h (fold h z (labels_in s n)) (suc n)) (fold h z (labels_in s n))
+    go true = fold-append h z (labels_in s n) (suc n ∷ [])
+    go false = refl
