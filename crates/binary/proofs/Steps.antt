@@ -1,15 +1,18 @@
 -- One turn of a reduction, and one turn through the labels.
-use Rattle.std.proofs.Common.{◌≡◌, ℕ, suc, ◌+◌, ◌-◌, ◌*◌, ◌/◌, ◌%◌, ◌^◌, ◌<◌, ◌≤◌, true, false, ◌⊎◌, List, length, get_or, set, replicate, sym, refl, ap, ◌∙◌, subst, inl, inr, arith, pow_pos}
+use Rattle.std.proofs.Common.{◌≡◌, ℕ, suc, ◌+◌, ◌-◌, ◌*◌, ◌/◌, ◌^◌, ◌<◌, ◌≤◌, true, false, ◌⊎◌, List, [], ◌∷◌, length, get_or, set, replicate, sym, refl, ap, ◌∙◌, subst, inl, inr, arith, pow_pos}
 use lib.Bits.{bit_xor}
-use lib.Count.{count_leading_zeros, count_trailing_zeros}
+use lib.Count.{count_leading_zeros}
 use native.Mathlib.Decide.{ℕ_discrete}
 use native.Mathlib.Nat.{div-eq_of_lt, lt-div-mul-add}
 use Rattle.std.proofs.lemmas.Bool.{cases_Bool}
 use Rattle.labels.specs.Sets.{has, single, insert, difference, Subset}
-use Rattle.labels.proofs.Member.{has_pos, has_xor, members}
+use Rattle.labels.proofs.Member.{has_pos, has_xor, has_none, members}
 use Rattle.labels.proofs.Card.{ext, within_back}
 use Rattle.labels.proofs.Order.{top_less}
-use Rattle.labels.proofs.Words.{leading_is, trailing_is, shl_is}
+use Rattle.labels.proofs.Words.{leading_is}
+use Rattle.labels.specs.Listed.{labels_in}
+use Rattle.labels.proofs.Upwards.{labels_none, labels_tell}
+use Rattle.label_words.proofs.Ascending.{word_left}
 use Rattle.binary_laws.specs.Binary.{binary, LinearlyIndependent}
 use Rattle.binary_laws.specs.Elimination.{places, pivot, Leading, Echelon, reduced, Grown, Vanishes}
 use Rattle.binary_laws.proofs.Reduction.{reduced_none, reduced_step}
@@ -114,11 +117,6 @@ rest_within s rest e p m f i = go (ℕ_discrete f e)
     go (yes z) = ap (has s) z ∙ p e m
     go (no z) = let l = has_pos rest e m in let q = p f in grind (arith, members)
 
-rest_less : (rest e : ℕ) → has rest e ≡ true → bit_xor rest (single e) < rest
-rest_less rest e m =
-    let l = has_pos rest e m in
-    top_less (bit_xor rest (single e)) rest e (record { apart = grind (arith, members); above = λ f g. grind (arith, members) }) m
-
 not_taken : (s rest e : ℕ) → has rest e ≡ true → has (difference s rest) e ≡ false
 not_taken s rest e m = grind (arith, members)
 
@@ -146,42 +144,39 @@ scan_starts n v s h = record {
   table = subst (λ (t : ℕ). Table n v t (pivot (replicate 64 0))) (sym (none_taken s)) (blank_table n v 64);
 }
 
-pub scan_ends : (n : ℕ) (v : ℕ → ℕ) (s rest : ℕ) (ps : List ℕ) → Scanned n v s rest ps → rest ≡ 0 → binary n v s ≡ true
-scan_ends n v s rest ps S z = meant n v s (subst (LinearlyIndependent n v) (all_taken s rest z) S.table.independent)
+-- the labels of s that are not in the list `left` have been taken up, and have the table ps
+abbrev pub ScannedTo : (n : ℕ) (v : ℕ → ℕ) (s : ℕ) (left ps : List ℕ) → Type 0
+ScannedTo n v s left ps = (rest : ℕ) × (left ≡ labels_in rest 64) × Scanned n v s rest ps
 
--- the lowest label of a set
-abbrev lowest : ℕ → ℕ
-lowest s = count_trailing_zeros 64 s + 1
+-- no label is left
+pub scan_ends : (n : ℕ) (v : ℕ → ℕ) (s : ℕ) (ps : List ℕ) → (S : ScannedTo n v s [] ps) → binary n v s ≡ true
+scan_ends n v s ps S = meant n v s (subst (LinearlyIndependent n v) (all_taken s S.0 (labels_tell S.0 0 64 S.2.fits (omega arith) (sym S.1 ∙ sym (labels_none 0 64 (λ e _. has_none e))))) S.2.table.independent)
 
-module _ (n : ℕ) (v : ℕ → ℕ) (s rest : ℕ) (ps : List ℕ) (inside : s < 2 ^ n) (S : Scanned n v s rest ps) (some : rest ≡ 0 → ⊥) where
-  is_in : has rest (lowest rest) ≡ true
-  is_in = (trailing_is 64 rest (omega (arith, some)) S.fits).0
+module _ (n : ℕ) (v : ℕ → ℕ) (s : ℕ) (ps : List ℕ) (inside : s < 2 ^ n) (e : ℕ) (left : List ℕ) (S : ScannedTo n v s (e ∷ left) ps) where
+  abbrev rest : ℕ
+  rest = S.0
 
-  pub low_index : count_trailing_zeros 64 rest < 64
-  low_index = omega (arith, within_back 64 rest (lowest rest) S.fits is_in)
+  taken : (has rest e ≡ true) × (left ≡ labels_in (bit_xor rest (single e)) 64) × (bit_xor rest (single e) < 2 ^ 64)
+  taken = word_left rest e left S.2.fits (sym S.1)
 
-  in_range : lowest rest ≤ n
-  in_range = within_back n s (lowest rest) inside (S.within (lowest rest) is_in)
+  in_range : e ≤ n
+  in_range = within_back n s e inside (S.2.within e taken.0)
 
-  bit_is : (1 * 2 ^ count_trailing_zeros 64 rest) % 2 ^ 64 ≡ single (lowest rest)
-  bit_is =
-      ap (λ (k : ℕ). (1 * 2 ^ k) % 2 ^ 64) (let z : count_trailing_zeros 64 rest ≡ lowest rest - 1 = omega arith in z)
-      ∙ shl_is 64 (lowest rest) (omega arith) (omega (arith, low_index))
-
-  pub scan_falls : bit_xor rest ((1 * 2 ^ count_trailing_zeros 64 rest) % 2 ^ 64) < rest
-  scan_falls = subst (λ (b : ℕ). bit_xor rest b < rest) (sym bit_is) (rest_less rest (lowest rest) is_in)
-
-  pub scan_refuses : (w : ℕ) → w ≡ v (lowest rest) → Vanishes ps w → binary n v s ≡ false
+  pub scan_refuses : (w : ℕ) → w ≡ v e → Vanishes ps w → binary n v s ≡ false
   scan_refuses w same z = answers_no n v s (λ F.
-      refuses n v (difference s rest) (pivot ps) S.table (lowest rest) (omega arith) in_range (not_taken s rest (lowest rest) is_in)
+      refuses n v (difference s rest) (pivot ps) S.2.table e (has_pos rest e taken.0) in_range (not_taken s rest e taken.0)
       (ap (reduced (pivot ps) places) (sym same) ∙ z)
-      (part_independent n v (insert (difference s rest) (lowest rest)) s (taken_within s rest (lowest rest) S.within is_in) F))
+      (part_independent n v (insert (difference s rest) e) s (taken_within s rest e S.2.within taken.0) F))
 
-  pub scan_goes_on : (w : ℕ) → w ≡ v (lowest rest) → (qs : List ℕ) → Grown ps w qs → Scanned n v s (bit_xor rest ((1 * 2 ^ count_trailing_zeros 64 rest) % 2 ^ 64)) qs
-  scan_goes_on w same qs G = subst (λ (b : ℕ). Scanned n v s (bit_xor rest b) qs) (sym bit_is) (record {
-    whole = grown_length ps w qs G ∙ S.whole;
-    fits = omega (arith, rest_less rest (lowest rest) is_in, S.fits);
-    within = rest_within s rest (lowest rest) S.within is_in;
-    table = subst (λ (t : ℕ). Table n v t (pivot qs)) (sym (taken_more s rest (lowest rest) S.within is_in))
-        (grown_table n v (difference s rest) ps S.table S.whole (lowest rest) (omega arith) in_range (not_taken s rest (lowest rest) is_in) qs (subst (λ (x : ℕ). Grown ps x qs) same G));
-  })
+  pub scan_goes_on : (w : ℕ) → w ≡ v e → (qs : List ℕ) → Grown ps w qs → ScannedTo n v s left qs
+  scan_goes_on w same qs G = (
+    bit_xor rest (single e),
+    taken.1,
+    record {
+      whole = grown_length ps w qs G ∙ S.2.whole;
+      fits = taken.2;
+      within = rest_within s rest e S.2.within taken.0;
+      table = subst (λ (t : ℕ). Table n v t (pivot qs)) (sym (taken_more s rest e S.2.within taken.0))
+          (grown_table n v (difference s rest) ps S.2.table S.2.whole e (has_pos rest e taken.0) in_range (not_taken s rest e taken.0) qs (subst (λ (x : ℕ). Grown ps x qs) same G));
+    },
+  )

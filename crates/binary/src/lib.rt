@@ -7,6 +7,7 @@ ghost use Rattle.binary_laws.specs.Binary.{binary};
 ghost use Rattle.binary_laws.specs.Elimination.{Echelon, Grown, Vanishes, pivot};
 ghost use Rattle.std.specs.Prelude.{◌≡◌, true, false};
 
+use label_words::labels_of;
 pub use matrix::BinaryMatrix;
 
 /// The places of a word, and so the most pivots.
@@ -39,13 +40,10 @@ pub fn is_independent<M: BinaryMatrix>(matrix: &M, set: u64) -> bool
         return false;
     }
     let mut pivots = [0u64; PLACES];
-    let mut rest = set;
-    while rest != 0 {
-        let index = rest.trailing_zeros() as u8;
-        if !join(&mut pivots, matrix.column(index + 1)) {
+    for label in labels_of(set) {
+        if !join(&mut pivots, matrix.column(label)) {
             return false;
         }
-        rest ^= 1u64 << index;
     }
     true
 }

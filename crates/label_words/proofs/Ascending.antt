@@ -1,13 +1,17 @@
 -- The labels of a word, upwards: the lowest and those that are left, and those of 1..n alone.
-use Rattle.std.proofs.Common.{◌≡◌, ℕ, suc, ◌+◌, ◌-◌, ◌*◌, ◌%◌, ◌^◌, ◌<◌, ◌≤◌, min, true, false, List, ◌∷◌, sym, ◌∙◌, ap, arith}
-use lib.Bits.{bit_and, bit_xor}
+use Rattle.std.proofs.Common.{◌≡◌, ℕ, suc, ◌+◌, ◌-◌, zero, ◌*◌, ◌%◌, ◌^◌, ◌<◌, ◌≤◌, min, true, false, List, ◌∷◌, length, get_or, drop, sym, ◌∙◌, ap, subst, arith}
+use lib.Bits.{bit_and, bit_xor, xor_lt}
 use lib.Count.{count_trailing_zeros}
 use Rattle.std.proofs.lemmas.Bool.Decides.{nat_tests}
 use Rattle.labels.specs.Sets.{has, single, full}
 use Rattle.labels.specs.Listed.{labels_in}
-use Rattle.labels.proofs.Member.{has_above, members}
-use Rattle.labels.proofs.Words.{shl_is, trailing_is}
-use Rattle.labels.proofs.Upwards.{labels_lowest, labels_cut}
+use Rattle.labels.proofs.Member.{has_above, has_none, members}
+use Rattle.labels.proofs.Words.{shl_is, single_below, trailing_is}
+use Rattle.labels.proofs.Upwards.{labels_lowest, labels_none, labels_cut}
+
+-- the lowest label of a word that has one
+abbrev lowest : ℕ → ℕ
+lowest s = count_trailing_zeros 64 s + 1
 
 lowest_fits : (s : ℕ) → 0 < s → s < 2 ^ 64 → count_trailing_zeros 64 s + 1 ≤ 64
 lowest_fits s l h = go (trailing_is 64 s l h).0
@@ -36,3 +40,17 @@ pub listed_to : (s n m w : ℕ) → n ≤ 64 → m ≡ n → w ≡ full (min m 6
 listed_to s n m w h k q =
     let z : min m 64 ≡ n = omega arith in
     ap (λ (x : ℕ). labels_in (bit_and s x) 64) (q ∙ ap full z) ∙ labels_cut s n 64 h
+
+-- the label that was handed out, and the word that is left
+pub word_left : (s e : ℕ) (left : List ℕ) → s < 2 ^ 64 → labels_in s 64 ≡ e ∷ left
+    → (has s e ≡ true) × (left ≡ labels_in (bit_xor s (single e)) 64) × (bit_xor s (single e) < 2 ^ 64)
+word_left zero e left h q = let z = ap (length {A = ℕ}) (sym (labels_none 0 64 (λ f _. has_none f)) ∙ q) in absurd (omega (arith, z))
+word_left (suc s) e left h q = go (takes_lowest (suc s) (omega arith) h) (trailing_is 64 (suc s) (omega arith) h).0 (lowest_fits (suc s) (omega arith) h)
+  where
+    go : labels_in (suc s) 64 ≡ lowest (suc s) ∷ labels_in (bit_xor (suc s) (single (lowest (suc s)))) 64 → has (suc s) (lowest (suc s)) ≡ true → lowest (suc s) ≤ 64
+        → (has (suc s) e ≡ true) × (left ≡ labels_in (bit_xor (suc s) (single e)) 64) × (bit_xor (suc s) (single e) < 2 ^ 64)
+    go p m l =
+        let first : lowest (suc s) ≡ e = ap (λ (es : List ℕ). get_or es 0 0) (sym p ∙ q) in
+        let others : labels_in (bit_xor (suc s) (single (lowest (suc s)))) 64 ≡ left = ap (drop 1) (sym p ∙ q) in
+        subst (λ (x : ℕ). (has (suc s) x ≡ true) × (left ≡ labels_in (bit_xor (suc s) (single x)) 64) × (bit_xor (suc s) (single x) < 2 ^ 64)) first
+        (m, sym others, xor_lt 64 (suc s) (single (lowest (suc s))) h (single_below 64 (lowest (suc s)) (omega arith) l))

@@ -1,17 +1,27 @@
-ghost use Rattle.std.specs.Prelude.{◌≡◌, ⊤};
+ghost use Rattle.std.specs.Prelude.{◌≡◌};
 ghost use Rattle.std.specs.Iterator.{YieldsFirst, item_count};
-ghost use Rattle.label_words.specs.Upwards.{left_of};
 ghost use Rattle.labels.specs.Listed.{labels_in};
 
-/// The labels of a word, upwards.
-#[derive(Clone, Copy, Debug)]
+use std::marker::Model;
+
+/// The labels of a word, upwards, seen as the list of those that are left.
+#[derive(Drop)]
 pub struct Labels {
     rest: u64,
 }
 
+impl Model for Labels {
+    ghost use Rattle.std.specs.Prelude.{ℕ, List};
+    ghost use Rattle.labels.specs.Listed.{labels_in};
+
+    ghost Value = { List ℕ };
+
+    ghost view = { λ l. labels_in l.rest 64 };
+}
+
 /// The labels of `set`, upwards.
 pub fn labels_of(set: u64) -> Labels
-    ensures { left_of result ≡ labels_in set 64 }
+    ensures { result ≡ labels_in set 64 }
 {
     Labels { rest: set }
 }
@@ -19,11 +29,9 @@ pub fn labels_of(set: u64) -> Labels
 impl Iterator for Labels {
     type Item = u8;
 
-    ghost can_next = { λ _. ⊤ };
+    ghost next_gives = { YieldsFirst (λ left. left) };
 
-    ghost next_gives = { YieldsFirst left_of };
-
-    ghost remaining = { item_count left_of };
+    ghost remaining = { item_count (λ left. left) };
 
     fn next(&mut self) -> Option<u8> {
         if self.rest == 0 {

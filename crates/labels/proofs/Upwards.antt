@@ -1,13 +1,14 @@
 -- The labels of a set as a list: empty where there is none, and else the lowest one before the others.
-use Rattle.std.proofs.Common.{◌≡◌, ℕ, zero, suc, ◌<◌, ◌≤◌, Bool, true, false, cond, not, ◌&&◌, List, [], ◌∷◌, ◌++◌, sym, refl, ap, ◌∙◌, ap₂, arith}
+use Rattle.std.proofs.Common.{◌≡◌, ℕ, zero, suc, ◌<◌, ◌≤◌, Bool, true, false, cond, not, ◌&&◌, eqb, leb, ◌^◌, List, [], ◌∷◌, ◌++◌, sym, refl, ap, ◌∙◌, ap₂, arith}
 use native.Mathlib.Decide.{ℕ_discrete}
 use lib.Bits.{bit_and}
-use Rattle.std.specs.List.{list_all, fold}
+use Rattle.std.specs.List.{list_all, list_any, fold}
 use Rattle.std.proofs.lemmas.Bool.Decides.{nat_tests}
-use Rattle.std.proofs.lemmas.List.Folds.{list_all-append}
+use Rattle.std.proofs.lemmas.List.Folds.{list_all-append, list_any-append}
 use Rattle.std.proofs.lemmas.List.Sums.{fold-append}
 use Rattle.labels.specs.Sets.{has, full, no_label}
-use Rattle.labels.proofs.Member.{has_full, members}
+use Rattle.labels.proofs.Member.{has_zero, has_above, has_full, members}
+use Rattle.labels.proofs.Card.{ext}
 use Rattle.labels.specs.Listed.{labels_in}
 
 -- what the label n adds
@@ -77,3 +78,25 @@ fold_labels h z s n = go (has s (suc n))
     go : (b : Bool) → fold h z (also (suc n) b (labels_in s n)) ≡ cond b (h (fold h z (labels_in s n)) (suc n)) (fold h z (labels_in s n))
     go true = fold-append h z (labels_in s n) (suc n ∷ [])
     go false = refl
+
+-- ---- the list tells its set
+
+listed : (s f n : ℕ) → list_any (eqb f) (labels_in s n) ≡ ((leb 1 f && leb f n) && has s f)
+unfolding labels_in
+listed s f zero = grind (arith, nat_tests)
+listed s f (suc n) = go (has s (suc n)) refl (listed s f n) (ℕ_discrete f (suc n))
+  where
+    go : (b : Bool) → has s (suc n) ≡ b → list_any (eqb f) (labels_in s n) ≡ ((leb 1 f && leb f n) && has s f) → Dec (f ≡ suc n)
+        → list_any (eqb f) (also (suc n) b (labels_in s n)) ≡ ((leb 1 f && leb f (suc n)) && has s f)
+    go true q ih (yes z) = let r = list_any-append (eqb f) (labels_in s n) (suc n ∷ []) in let w = ap (has s) z in grind (arith, nat_tests)
+    go true q ih (no z) = let r = list_any-append (eqb f) (labels_in s n) (suc n ∷ []) in grind (arith, nat_tests)
+    go false q ih (yes z) = let w = ap (has s) z in grind (arith, nat_tests)
+    go false q ih (no z) = grind (arith, nat_tests)
+
+at_zero : (s f : ℕ) → f ≡ 0 → has s f ≡ false
+at_zero s f z = ap (has s) z ∙ has_zero s
+
+pub labels_tell : (s t n : ℕ) → s < 2 ^ n → t < 2 ^ n → labels_in s n ≡ labels_in t n → s ≡ t
+labels_tell s t n h l q = ext s t (λ f.
+    let a = listed s f n in let b = listed t f n in let z = ap (list_any (eqb f)) q in
+    let u = has_above n s f h in let v = has_above n t f l in let w = at_zero s f in let x = at_zero t f in grind (arith, nat_tests))

@@ -1,4 +1,4 @@
-use Rattle.std.proofs.Common.{◌≡◌, sym, ◌∙◌, arith}
+use Rattle.std.proofs.Common.{sym, ◌∙◌, arith}
 use Rattle.matroid.proofs.Turns.{base_is, tells_base}
 use Rattle.matroid.proofs.bases.is_base.Goals as goal
 

@@ -1,7 +1,6 @@
 use Rattle.std.proofs.Common.{◌≡◌}
 use Rattle.std.specs.List.{list_all}
 use Rattle.labels.specs.Sets.{no_label}
-use Rattle.labels.specs.Listed.{labels_in}
 use Rattle.matroid.specs.Joining.{joins}
 use Rattle.matroid.proofs.Turns.{barred}
 use Rattle.matroid.proofs.bases.none_joins.Given as goal
@@ -10,4 +9,4 @@ use Rattle.matroid.proofs.bases.none_joins.Given as goal
 abbrev pub invariant-loop-label : goal.invariant-loop-label
 invariant-loop-label g l =
     let f = g.M.Matroid.independent l.matroid in
-    no_label (joins f l.set l.held) (g.M.Matroid.size l.matroid) ≡ list_all (barred f l.held) (labels_in l.label-iterator.rest 64)
+    no_label (joins f l.set l.held) (g.M.Matroid.size l.matroid) ≡ list_all (barred f l.held) l.label-iterator
