@@ -1,4 +1,4 @@
-use Rattle.std.proofs.Common.{rules, ◌≡◌, ℕ, length, sym, ap, ◌∙◌, arith}
+use Rattle.std.proofs.Common.{rules, ℕ, length, sym, ap, ◌∙◌, arith}
 use Rattle.labels.specs.Listed.{labels_in}
 use Rattle.labels.proofs.Upwards.{labels_none}
 use Rattle.labels.proofs.Member.{has_none}
