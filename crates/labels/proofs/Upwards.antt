@@ -1,12 +1,14 @@
 -- The labels of a set as a list: empty where there is none, and else the lowest one before the others.
-use Rattle.std.proofs.Common.{◌≡◌, ℕ, zero, suc, ◌<◌, ◌≤◌, Bool, true, false, cond, not, ◌&&◌, eqb, leb, ◌^◌, List, [], ◌∷◌, ◌++◌, sym, refl, ap, ◌∙◌, ap₂, arith}
+use Rattle.std.proofs.Common.{◌≡◌, ℕ, zero, suc, ◌<◌, ◌≤◌, Bool, true, false, cond, not, ◌&&◌, eqb, leb, ◌^◌, List, [], ◌∷◌, ◌++◌, Some, None, Option, sym, refl, ap, ◌∙◌, ap₂, subst, arith}
 use native.Mathlib.Decide.{ℕ_discrete}
 use lib.Bits.{bit_and}
-use Rattle.std.specs.List.{list_all, list_any, fold}
+use Rattle.std.specs.List.{list_all, list_any, find, fold}
+use Rattle.std.specs.Option.{option_or}
+use Rattle.std.proofs.lemmas.Bool.{true≢false}
 use Rattle.std.proofs.lemmas.Bool.Decides.{nat_tests}
-use Rattle.std.proofs.lemmas.List.Folds.{list_all-append, list_any-append}
+use Rattle.std.proofs.lemmas.List.Folds.{list_all-append, list_any-append, find-append}
 use Rattle.std.proofs.lemmas.List.Sums.{fold-append}
-use Rattle.labels.specs.Sets.{has, full, no_label}
+use Rattle.labels.specs.Sets.{has, full, insert, no_label, passing}
 use Rattle.labels.proofs.Member.{has_zero, has_above, has_full, members}
 use Rattle.labels.proofs.Card.{ext}
 use Rattle.labels.specs.Listed.{labels_in}
@@ -100,3 +102,65 @@ pub labels_tell : (s t n : ℕ) → s < 2 ^ n → t < 2 ^ n → labels_in s n �
 labels_tell s t n h l q = ext s t (λ f.
     let a = listed s f n in let b = listed t f n in let z = ap (list_any (eqb f)) q in
     let u = has_above n s f h in let v = has_above n t f l in let w = at_zero s f in let x = at_zero t f in grind (arith, nat_tests))
+
+-- ---- what a loop over the labels of s gathers or finds
+
+-- where t passes just the labels of s that pass p, and add adds a label
+pub passing_listed : (t p : ℕ → Bool) (add : ℕ → ℕ → ℕ) (s n : ℕ) → ((e : ℕ) → 1 ≤ e → e ≤ n → t e ≡ (has s e && p e)) → ((c e : ℕ) → 1 ≤ e → e ≤ n → add c e ≡ insert c e)
+    → passing t n ≡ fold (λ c e. cond (p e) (add c e) c) 0 (labels_in s n)
+unfolding passing labels_in
+passing_listed t p add s zero h k = refl
+passing_listed t p add s (suc n) h k =
+    go (has s (suc n)) (h (suc n) (omega arith) (omega arith)) (passing_listed t p add s n (λ e l g. h e l (omega arith)) (λ c e l g. k c e l (omega arith)))
+    ∙ sym (fold_labels (λ c e. cond (p e) (add c e) c) 0 s n)
+  where
+    go : (b : Bool) → t (suc n) ≡ (b && p (suc n)) → passing t n ≡ fold (λ c e. cond (p e) (add c e) c) 0 (labels_in s n)
+        → cond (t (suc n)) (insert (passing t n) (suc n)) (passing t n)
+        ≡ cond b (cond (p (suc n)) (add (fold (λ c e. cond (p e) (add c e) c) 0 (labels_in s n)) (suc n)) (fold (λ c e. cond (p e) (add c e) c) 0 (labels_in s n))) (fold (λ c e. cond (p e) (add c e) c) 0 (labels_in s n))
+    go true q ih =
+        ap (λ (x : Bool). cond x (insert (passing t n) (suc n)) (passing t n)) q
+        ∙ ap (λ (c : ℕ). cond (p (suc n)) (insert c (suc n)) c) ih
+        ∙ ap (λ (x : ℕ). let c = fold (λ c e. cond (p e) (add c e) c) 0 (labels_in s n) in cond (p (suc n)) x c) (sym (k _ (suc n) (omega arith) (omega arith)))
+    go false q ih = ap (λ (x : Bool). cond x (insert (passing t n) (suc n)) (passing t n)) q ∙ ih
+
+-- the first label of s among 1..n that passes p, if one does
+abbrev pub FirstListed : (ℕ → Bool) → ℕ → ℕ → Option ℕ → Type 0
+FirstListed p s n None = (d : ℕ) → 1 ≤ d → d ≤ n → has s d ≡ true → p d ≡ false
+FirstListed p s n (Some e) = (1 ≤ e) × (e ≤ n) × (has s e ≡ true) × (p e ≡ true) × ((d : ℕ) → 1 ≤ d → d < e → has s d ≡ true → p d ≡ false)
+
+longer : (p : ℕ → Bool) (s n : ℕ) (r : Option ℕ) → (has s (suc n) ≡ true → p (suc n) ≡ false) → FirstListed p s n r → FirstListed p s (suc n) r
+longer p s n None f h = λ d l g i. at d l g i (ℕ_discrete d (suc n))
+  where
+    at : (d : ℕ) → 1 ≤ d → d ≤ suc n → has s d ≡ true → Dec (d ≡ suc n) → p d ≡ false
+    at d l g i (yes z) = ap p z ∙ f (sym (ap (has s) z) ∙ i)
+    at d l g i (no z) = h d l (omega arith) i
+longer p s n (Some e) f h = (h.0, omega arith, h.2, h.3, h.4)
+
+pub find_listed : (p : ℕ → Bool) (s n : ℕ) → FirstListed p s n (find p (labels_in s n))
+unfolding labels_in
+find_listed p s zero = λ d l g h. absurd (omega arith)
+find_listed p s (suc n) = go (has s (suc n)) refl (find p (labels_in s n)) refl (find_listed p s n)
+  where
+    last : (c : Bool) → p (suc n) ≡ c → has s (suc n) ≡ true → FirstListed p s n None → FirstListed p s (suc n) (cond c (Some (suc n)) None)
+    last true q b ih = (omega arith, omega arith, b, q, λ d l g h. ih d l (omega arith) h)
+    last false q b ih = longer p s n None (λ _. q) ih
+
+    go : (b : Bool) → has s (suc n) ≡ b → (r : Option ℕ) → find p (labels_in s n) ≡ r → FirstListed p s n r → FirstListed p s (suc n) (find p (also (suc n) b (labels_in s n)))
+    go false w r q ih = subst (FirstListed p s (suc n)) (sym q) (longer p s n r (λ h. absurd (true≢false (sym h ∙ w))) ih)
+    go true w None q ih =
+        subst (FirstListed p s (suc n)) (sym (find-append p (labels_in s n) (suc n ∷ []) ∙ ap (λ (x : Option ℕ). option_or x (find p (suc n ∷ []))) q)) (last (p (suc n)) refl w ih)
+    go true w (Some e) q ih =
+        subst (FirstListed p s (suc n)) (sym (find-append p (labels_in s n) (suc n ∷ []) ∙ ap (λ (x : Option ℕ). option_or x (find p (suc n ∷ []))) q)) (ih.0, omega arith, ih.2, ih.3, ih.4)
+
+-- the labels of the list are labels of 1..n
+abbrev pub among : ℕ → ℕ → Bool
+among n e = leb 1 e && leb e n
+
+pub labels_among : (s n m : ℕ) → n ≤ m → list_all (among m) (labels_in s n) ≡ true
+unfolding labels_in
+labels_among s zero m h = refl
+labels_among s (suc n) m h = go (has s (suc n)) (labels_among s n m (omega arith))
+  where
+    go : (b : Bool) → list_all (among m) (labels_in s n) ≡ true → list_all (among m) (also (suc n) b (labels_in s n)) ≡ true
+    go true ih = let r = list_all-append (among m) (labels_in s n) (suc n ∷ []) in grind (arith, nat_tests)
+    go false ih = ih

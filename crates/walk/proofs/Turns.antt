@@ -1,81 +1,90 @@
--- One turn of each loop of a walk, in the words of the specs.
-use Rattle.std.proofs.Common.{◌≡◌, ℕ, suc, ◌+◌, ◌≤◌, Bool, true, false, cond, not, ◌&&◌, sym, refl, ap, ◌∙◌, subst, ap₂, add-one, arith}
-use mathlib.Core.Bool.{beq}
-use native.Mathlib.Decide.{ℕ_discrete}
-use Rattle.labels.specs.Sets.{has, insert, differs, passing}
+-- What the loops of a walk answer, in the words of the specs.
+use Rattle.std.proofs.Common.{◌≡◌, ℕ, zero, suc, ◌-◌, ◌^◌, ◌<◌, ◌≤◌, Bool, true, false, cond, not, eqb, List, ◌∷◌, Some, None, sym, refl, ap, ◌∙◌, subst, arith}
+use lib.Bits.{bit_or, bit_xor}
+use Rattle.std.specs.List.{find, fold, list_all}
+use Rattle.std.proofs.lemmas.Bool.Decides.{nat_tests}
+use Rattle.labels.specs.Sets.{has, differs}
+use Rattle.labels.specs.Listed.{labels_in}
+use Rattle.labels.proofs.Upwards.{FirstListed, among, find_listed, fold_labels, passing_listed}
+use Rattle.labels.proofs.Member.{has_pos}
+use Rattle.labels.proofs.Words.{has_outside}
+use Rattle.label_words.specs.Words.{word_of}
+use Rattle.label_words.proofs.Held.{word_in, swap_is}
 use Rattle.walk_laws.specs.Settings.{summed}
-
--- ---- the labels that pass
-
-pub none_passing : (t : ℕ → Bool) → ◌≡◌ {A = ℕ} 0 (passing t 0)
-unfolding passing
-none_passing t = refl
-
-module _ (t : ℕ → Bool) (i found : ℕ) (inv : found ≡ passing t i) where
-  by_flag : (b : Bool) → t (i + 1) ≡ b → cond b (insert found (i + 1)) found ≡ passing t (i + 1)
-  unfolding passing
-  by_flag b p =
-      ap (λ (x : Bool). cond x (insert found (i + 1)) found) (sym p)
-      ∙ ap (λ (k : ℕ). cond (t k) (insert found k) found) (add-one i)
-      ∙ ap (λ (z : ℕ). cond (t (suc i)) (insert z (suc i)) z) inv
-      ∙ ap (passing t) (sym (add-one i))
-
-  pub passes : t (i + 1) ≡ true → insert found (i + 1) ≡ passing t (i + 1)
-  passes p = by_flag true p
-
-  pub fails : t (i + 1) ≡ false → found ≡ passing t (i + 1)
-  fails p = by_flag false p
-
--- exactly one of two labels is in a set, as the code tests it
-module _ (x y rx ry : Bool) (ex : rx ≡ x) (ey : ry ≡ y) where
-  test_is : not (beq rx ry) ≡ differs y x
-  test_is = ap₂ (λ (a b : Bool). not (beq a b)) ex ey ∙ go x y
-    where
-      go : (x y : Bool) → not (beq x y) ≡ differs y x
-      go true true = refl
-      go true false = refl
-      go false true = refl
-      go false false = refl
-
-  pub apart_both : (z : Bool) → not (beq rx ry) ≡ true → z ≡ true → (differs y x && z) ≡ true
-  apart_both z h k = ap₂ ◌&&◌ (sym test_is ∙ h) k
-
-  pub apart_first : (z : Bool) → not (beq rx ry) ≡ true → z ≡ false → (differs y x && z) ≡ false
-  apart_first z h k = ap₂ ◌&&◌ (sym test_is ∙ h) k
-
-  pub apart_none : (z : Bool) → not (beq rx ry) ≡ false → (differs y x && z) ≡ false
-  apart_none z h = ap (λ (a : Bool). a && z) (sym test_is ∙ h)
-
--- ---- labels gone through upwards
-
-module _ (P : ℕ → Type 0) where
-  pub up_none : (d : ℕ) → 1 ≤ d → d ≤ 0 → P d
-  up_none d l g = absurd (omega arith)
-
-  pub up_more : (i : ℕ) → ((d : ℕ) → 1 ≤ d → d ≤ i → P d) → P (i + 1) → (d : ℕ) → 1 ≤ d → d ≤ i + 1 → P d
-  up_more i inv here d l g = go (ℕ_discrete d (i + 1))
-    where
-      go : Dec (d ≡ i + 1) → P d
-      go (yes e) = subst P (sym e) here
-      go (no e) = inv d l (omega arith)
+use Rattle.walk.specs.States.{Movable, partners, swappable}
 
 -- ---- the value of a set
 
-pub summed_none : {V : Type 0} (z : V) (sum : V → V → V) (worth : ℕ → V) (t : ℕ) (v : V) → v ≡ z → v ≡ summed z sum worth t 0
-unfolding summed
-summed_none z sum worth t v h = h
+-- the label e adds its worth
+abbrev pub gained : {V : Type 0} → (V → V → V) → (ℕ → V) → V → ℕ → V
+gained sum worth v e = sum v (worth e)
 
-module _ {V : Type 0} (z : V) (sum : V → V → V) (worth : ℕ → V) (t i : ℕ) (v : V) (inv : v ≡ summed z sum worth t i) where
-  value_by : (b : Bool) → has t (i + 1) ≡ b → cond b (sum v (worth (i + 1))) v ≡ summed z sum worth t (i + 1)
-  unfolding summed
-  value_by b p =
-      ap (λ (x : Bool). cond x (sum v (worth (i + 1))) v) (sym p)
-      ∙ ap (λ (k : ℕ). cond (has t k) (sum v (worth k)) v) (add-one i)
-      ∙ ap (λ (u : V). cond (has t (suc i)) (sum u (worth (suc i))) u) inv
-      ∙ ap (summed z sum worth t) (sym (add-one i))
+pub summed_listed : {V : Type 0} (z : V) (sum : V → V → V) (worth : ℕ → V) (t n : ℕ) → summed z sum worth t n ≡ fold (gained sum worth) z (labels_in t n)
+unfolding summed labels_in
+summed_listed z sum worth t zero = refl
+summed_listed {V} z sum worth t (suc n) =
+    ap (λ (v : V). cond (has t (suc n)) (sum v (worth (suc n))) v) (summed_listed z sum worth t n) ∙ sym (fold_labels (gained sum worth) z t n)
 
-  pub value_more : has t (i + 1) ≡ true → sum v (worth (i + 1)) ≡ summed z sum worth t (i + 1)
-  value_more p = value_by true p
+-- ---- the partners of a label
 
-  pub value_stays : has t (i + 1) ≡ false → v ≡ summed z sum worth t (i + 1)
-  value_stays p = value_by false p
+-- the label o joins what was found where swapping e and o gives an independent set
+abbrev pub partnered : (ℕ → Bool) → ℕ → ℕ → ℕ → ℕ → ℕ
+partnered f t e c o = cond (f (bit_xor t (bit_or (word_of e) (word_of o)))) (bit_or c (word_of o)) c
+
+pub partners_listed : (f : ℕ → Bool) (t e s : ℕ) → e ≤ 64 → ((o : ℕ) → 1 ≤ o → o < e → has s o ≡ differs (has t e) (has t o))
+    → partners f t e ≡ fold (partnered f t e) 0 (labels_in s (e - 1))
+partners_listed f t e s g same =
+    passing_listed (swappable f t e) (λ o. f (bit_xor t (bit_or (word_of e) (word_of o)))) (λ c o. bit_or c (word_of o)) s (e - 1)
+    (λ o i k. let q = same o i (omega arith) in let z = ap f (swap_is t e o _ (omega arith) g i (omega arith) refl) in grind arith)
+    (λ c o i k. ap (bit_or c) (word_in o i (omega arith)))
+
+-- the labels on the other side, as the code has them
+pub others_out : (t e : ℕ) → t < 2 ^ 64 → e ≤ 64 → has t e ≡ true → (o : ℕ) → 1 ≤ o → o < e → has (18446744073709551615 - t) o ≡ differs (has t e) (has t o)
+others_out t e h g i o l k = let w = has_outside t o h l (omega arith) in grind arith
+
+pub others_in : (t e : ℕ) → has t e ≡ false → (o : ℕ) → 1 ≤ o → o < e → has t o ≡ differs (has t e) (has t o)
+others_in t e i o l k = grind arith
+
+-- ---- the label that moves
+
+-- the label e has a partner
+abbrev pub partnered_at : (ℕ → Bool) → ℕ → ℕ → Bool
+partnered_at f t e = not (eqb (partners f t e) 0)
+
+has_one : (c : ℕ) → not (eqb c 0) ≡ true → 0 < c
+has_one c h = grind (arith, nat_tests)
+
+has_none_left : (c : ℕ) → not (eqb c 0) ≡ false → c ≡ 0
+has_none_left c h = grind (arith, nat_tests)
+
+module _ (f : ℕ → Bool) (t a n : ℕ) where
+  pub moves : (e c : ℕ) → find (partnered_at f t) (labels_in a n) ≡ Some e → c ≡ partners f t e → Movable n f t a e c
+  moves e c q k =
+      let h = subst (FirstListed (partnered_at f t) a n) q (find_listed (partnered_at f t) a n) in
+      record {
+        low = h.0;
+        high = h.1;
+        active_is = h.2;
+        partners_are = k;
+        some = subst (λ (x : ℕ). 0 < x) (sym k) (has_one (partners f t e) h.3);
+        first = λ d l o. has_none_left (partners f t d) (h.4 d (has_pos a d o) l o);
+      }
+
+  pub none_moves : find (partnered_at f t) (labels_in a n) ≡ None → (d : ℕ) → 1 ≤ d → d ≤ n → has a d ≡ true → partners f t d ≡ 0
+  none_moves q d l g o =
+      let h = subst (FirstListed (partnered_at f t) a n) q (find_listed (partnered_at f t) a n) in has_none_left (partners f t d) (h d l g o)
+
+pub found_at : (f : ℕ → Bool) (t e c : ℕ) (es : List ℕ) → c ≡ partners f t e → (c ≡ 0 → ⊥) → find (partnered_at f t) (e ∷ es) ≡ Some e
+found_at f t e c es k some = ap (λ (b : Bool). cond b (Some e) (find (partnered_at f t) es)) (let z : not (eqb (partners f t e) 0) ≡ true = at (partners f t e) (λ x. some (k ∙ x)) in z)
+  where
+    at : (x : ℕ) → (x ≡ 0 → ⊥) → not (eqb x 0) ≡ true
+    at x h = grind (arith, nat_tests)
+
+pub passed : (f : ℕ → Bool) (t e c : ℕ) (es : List ℕ) → c ≡ partners f t e → c ≡ 0 → find (partnered_at f t) (e ∷ es) ≡ find (partnered_at f t) es
+passed f t e c es k none = ap (λ (x : ℕ). cond (not (eqb x 0)) (Some e) (find (partnered_at f t) es)) (sym k ∙ none)
+
+pub first_among : (n e : ℕ) (es : List ℕ) → list_all (among n) (e ∷ es) ≡ true → (1 ≤ e) × (e ≤ n)
+first_among n e es h = (grind (arith, nat_tests), grind (arith, nat_tests))
+
+pub rest_among : (n e : ℕ) (es : List ℕ) → list_all (among n) (e ∷ es) ≡ true → list_all (among n) es ≡ true
+rest_among n e es h = grind (arith, nat_tests)

@@ -1,13 +1,13 @@
-ghost use Rattle.std.specs.Prelude.{◌≡◌, ℕ, ◌+◌, ◌<◌, ◌≤◌, true, [], MatchOption};
-ghost use Rattle.labels.specs.Sets.{has, limit};
+ghost use Rattle.std.specs.Prelude.{◌≡◌, ◌+◌, ◌≤◌, [], Some, MatchOption};
+ghost use Rattle.labels.specs.Sets.{limit};
 ghost use Rattle.walk_laws.specs.Law.{LawOfLife, SameAsG};
 ghost use Rattle.walk_laws.specs.Lives.{Call, advanced, handed, looked, view_of};
 ghost use Rattle.walk_laws.specs.Settings.{summed};
 ghost use Rattle.walk_laws.specs.Steps.{after, begun, exchange_at, step, value_after};
-ghost use Rattle.walk.specs.States.{Based, setting, setting_of, state_of};
+ghost use Rattle.walk.specs.States.{Keeps, Movable, setting, setting_of, state_of};
 
 use crate::{Parts, Walk};
-use label_words::{contains, full_to, reopened, swapped};
+use label_words::{contains, full_to, labels_of, reopened, swapped};
 use matroid::{Matroid, start};
 use measure::Measure;
 use tie_rule::TieRule;
@@ -15,14 +15,12 @@ use walk_laws::{Exchange, View};
 
 /// The value of `set`: the sum of the worths of its labels among 1 to `n`.
 fn value_of<M: Measure>(measure: &M, set: u64, n: u8) -> M::Value
+    requires { n ≤ limit }
     ensures { result ≡ summed M.Measure.zero M.Measure.sum (M.Measure.worth measure.now) set n }
 {
     let mut value = measure.zero();
-    for i in 0..n {
-        let label = i + 1;
-        if contains(set, label) {
-            value = measure.sum(value, measure.worth(label));
-        }
+    for label in labels_of(set & full_to(n)) {
+        value = measure.sum(value, measure.worth(label));
     }
     value
 }
@@ -34,7 +32,6 @@ impl<P: Matroid, R: TieRule, M: Measure> Walk<P, R, M> {
         ensures matroid { result.matroid ≡ matroid }
         ensures measure { result.measure ≡ measure }
         ensures begun { state_of result ≡ begun (setting P.Matroid R.TieRule M.Measure matroid measure) offered opened rule }
-        ensures based { Based P.Matroid result }
         ensures law { LawOfLife (setting P.Matroid R.TieRule M.Measure matroid measure) offered opened rule }
         ensures algorithm { SameAsG (setting P.Matroid R.TieRule M.Measure matroid measure) offered opened rule }
     {
@@ -45,11 +42,13 @@ impl<P: Matroid, R: TieRule, M: Measure> Walk<P, R, M> {
             matroid,
             rule,
             measure,
-            present,
-            active: opened & full_to(n),
-            count: 1,
-            value,
-            total: value,
+            view: View {
+                present,
+                active: opened & full_to(n),
+                count: 1,
+                value,
+                total: value,
+            },
         }
     }
 
@@ -57,13 +56,7 @@ impl<P: Matroid, R: TieRule, M: Measure> Walk<P, R, M> {
     pub fn look(&self) -> View<M::Value>
         ensures { result ≡ view_of (state_of self.now) }
     {
-        View {
-            present: self.present,
-            active: self.active,
-            count: self.count,
-            value: self.value,
-            total: self.total,
-        }
+        self.view
     }
 
     /// The value after an exchange: it gains the worth that comes in and the opposite of the one that goes out.
@@ -72,7 +65,7 @@ impl<P: Matroid, R: TieRule, M: Measure> Walk<P, R, M> {
     {
         let gained = self
             .measure
-            .sum(self.value, self.measure.worth(exchange.entering()));
+            .sum(self.view.value, self.measure.worth(exchange.entering()));
         self.measure.sum(
             gained,
             self.measure
@@ -82,15 +75,13 @@ impl<P: Matroid, R: TieRule, M: Measure> Walk<P, R, M> {
 
     /// Makes the exchange at the active label `label`, with one of the candidates `found`.
     fn exchange(&mut self, label: u8, found: u64) -> Exchange
-        requires low { label ≤ limit }
-        requires active { has self.old.active label ≡ true }
-        requires some { (f : ℕ) × (f < label) × (has found f ≡ true) }
-        ensures matroid { self.new.matroid ≡ self.old.matroid }
-        ensures measure { self.new.measure ≡ self.old.measure }
+        requires { Movable (P.Matroid.size self.old.matroid) (P.Matroid.independent self.old.matroid) self.old.view.present self.old.view.active label found }
+        ensures keeps { Keeps self.old self.new }
         ensures answer { result ≡ exchange_at (setting_of P.Matroid R.TieRule M.Measure self.old) (state_of self.old) label found }
         ensures after { state_of self.new ≡ after (setting_of P.Matroid R.TieRule M.Measure self.old) (state_of self.old) label found }
+        ensures step { step (setting_of P.Matroid R.TieRule M.Measure self.old) (state_of self.old) ≡ (Some result, state_of self.new) }
     {
-        let came = !contains(self.present, label);
+        let came = !contains(self.view.present, label);
         let low = self.rule.choose(label, found);
         let exchange = Exchange {
             high: label,
@@ -98,29 +89,23 @@ impl<P: Matroid, R: TieRule, M: Measure> Walk<P, R, M> {
             came,
         };
         let value = self.value_after(exchange);
-        self.present = swapped(self.present, label, low);
-        self.active = reopened(self.active, label);
-        self.count += 1;
-        self.value = value;
-        self.total = self.measure.sum(self.total, value);
+        let view = &mut self.view;
+        view.present = swapped(view.present, label, low);
+        view.active = reopened(view.active, label);
+        view.count += 1;
+        view.value = value;
+        view.total = self.measure.sum(view.total, value);
         exchange
     }
 
     /// Advances by one exchange, at the lowest active label that has a candidate; none where the walk is finished.
     pub fn advance(&mut self) -> Option<Exchange>
-        ensures matroid { self.new.matroid ≡ self.old.matroid }
-        ensures measure { self.new.measure ≡ self.old.measure }
-        ensures step { Based P.Matroid self.old
-            → step (setting_of P.Matroid R.TieRule M.Measure self.old) (state_of self.old) ≡ (result, state_of self.new) }
-        ensures call { Based P.Matroid self.old
-            → Call (setting_of P.Matroid R.TieRule M.Measure self.old) (state_of self.old) (advanced result) (handed result (state_of self.new)) (state_of self.new) }
-        ensures based { Based P.Matroid self.old
-            → Based P.Matroid self.new }
-        ensures cases { MatchOption result (state_of self.new ≡ state_of self.old) (λ _. self.new.count ≡ self.old.count + 1) }
+        ensures keeps { Keeps self.old self.new }
+        ensures step { step (setting_of P.Matroid R.TieRule M.Measure self.old) (state_of self.old) ≡ (result, state_of self.new) }
+        ensures call { Call (setting_of P.Matroid R.TieRule M.Measure self.old) (state_of self.old) (advanced result) (handed result (state_of self.new)) (state_of self.new) }
+        ensures cases { MatchOption result (state_of self.new ≡ state_of self.old) (λ _. self.new.view.count ≡ self.old.view.count + 1) }
     {
-        let Some((label, found)) = self.movable() else {
-            return None;
-        };
+        let (label, found) = self.movable()?;
         Some(self.exchange(label, found))
     }
 
@@ -131,16 +116,11 @@ impl<P: Matroid, R: TieRule, M: Measure> Walk<P, R, M> {
         ensures measure { result.measure ≡ self.measure }
         ensures view { result.view ≡ view_of (state_of self) }
     {
-        let view = self.look();
         let Walk {
             matroid,
             rule,
             measure,
-            present: _,
-            active: _,
-            count: _,
-            value: _,
-            total: _,
+            view,
         } = self;
         Parts {
             matroid,

@@ -1,9 +1,9 @@
-ghost use Rattle.std.specs.Prelude.{◌≡◌, ℕ, ◌<◌, ◌≤◌, true, MatchOption};
+ghost use Rattle.std.specs.Prelude.{◌≡◌, ℕ, ◌≤◌, true, MatchOption};
 ghost use Rattle.labels.specs.Sets.{has};
-ghost use Rattle.walk.specs.States.{partners};
+ghost use Rattle.walk.specs.States.{Movable, partners};
 
 use crate::Walk;
-use label_words::{contains, inserted, swapped};
+use label_words::{contains, full_to, inserted, labels_of, swapped};
 use matroid::Matroid;
 use measure::Measure;
 use tie_rule::TieRule;
@@ -12,19 +12,20 @@ impl<P: Matroid, R: TieRule, M: Measure> Walk<P, R, M> {
     /// The labels below `label` on the other side that it can be swapped with.
     fn candidates(&self, label: u8) -> u64
         requires { label ≤ 64 }
-        ensures { result ≡ partners (P.Matroid.independent self.now.matroid) self.now.present label }
+        ensures { result ≡ partners (P.Matroid.independent self.now.matroid) self.now.view.present label }
     {
-        let inside = contains(self.present, label);
+        let others = if contains(self.view.present, label) {
+            !self.view.present
+        } else {
+            self.view.present
+        };
         let mut found = 0;
-        for i in 0..label.saturating_sub(1) {
-            let other = i + 1;
-            if contains(self.present, other) != inside {
-                if self
-                    .matroid
-                    .is_independent(swapped(self.present, label, other))
-                {
-                    found = inserted(found, other);
-                }
+        for other in labels_of(others & full_to(label.saturating_sub(1))) {
+            if self
+                .matroid
+                .is_independent(swapped(self.view.present, label, other))
+            {
+                found = inserted(found, other);
             }
         }
         found
@@ -33,20 +34,14 @@ impl<P: Matroid, R: TieRule, M: Measure> Walk<P, R, M> {
     /// The lowest active label that has a candidate, with its candidates.
     pub(crate) fn movable(&self) -> Option<(u8, u64)>
         ensures { MatchOption result
-            ((d : ℕ) → 1 ≤ d → d ≤ P.Matroid.size self.now.matroid → has self.now.active d ≡ true
-            → partners (P.Matroid.independent self.now.matroid) self.now.present d ≡ 0)
-            (λ x. (1 ≤ x.0) × (x.0 ≤ P.Matroid.size self.now.matroid) × (has self.now.active x.0 ≡ true)
-            × (x.1 ≡ partners (P.Matroid.independent self.now.matroid) self.now.present x.0) × (0 < x.1)
-            × ((d : ℕ) → d < x.0 → has self.now.active d ≡ true
-            → partners (P.Matroid.independent self.now.matroid) self.now.present d ≡ 0)) }
+            ((d : ℕ) → 1 ≤ d → d ≤ P.Matroid.size self.now.matroid → has self.now.view.active d ≡ true
+            → partners (P.Matroid.independent self.now.matroid) self.now.view.present d ≡ 0)
+            (λ x. Movable (P.Matroid.size self.now.matroid) (P.Matroid.independent self.now.matroid) self.now.view.present self.now.view.active x.0 x.1) }
     {
-        for i in 0..self.matroid.size() {
-            let label = i + 1;
-            if contains(self.active, label) {
-                let found = self.candidates(label);
-                if found != 0 {
-                    return Some((label, found));
-                }
+        for label in labels_of(self.view.active & full_to(self.matroid.size())) {
+            let found = self.candidates(label);
+            if found != 0 {
+                return Some((label, found));
             }
         }
         None

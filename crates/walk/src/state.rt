@@ -1,20 +1,19 @@
 ghost use Rattle.std.specs.Prelude.{◌+◌, ◌^◌, ◌≤◌};
 ghost use Rattle.labels.specs.Sets.{limit};
+ghost use Rattle.matroid_laws.specs.Matroids.{Base};
 
 use matroid::Matroid;
 use measure::Measure;
 use tie_rule::TieRule;
+use walk_laws::View;
 
-/// A walk: a present set of labels, the labels that are active, how many sets were handed out, the value of the
-/// present set, and the total of the values of all. The bound makes the count safe and every walk end.
+/// A walk: its matroid, tie rule and measure, and what it shows of itself. The present set is a base, from the beginning on and
+/// after every call. The bound makes the count safe and every walk end.
 pub struct Walk<P: Matroid, R: TieRule, M: Measure> {
     pub(crate) matroid: P,
     pub(crate) rule: R,
     pub(crate) measure: M,
-    pub(crate) present: u64,
-    pub(crate) active: u64,
-    pub(crate) count: u64,
-    pub(crate) value: M::Value,
-    pub(crate) total: M::Value,
-    ghost bounded: { count + active ≤ 2 ^ limit },
+    pub(crate) view: View<M::Value>,
+    ghost bounded: { view.count + view.active ≤ 2 ^ limit },
+    ghost based: { Base (P.Matroid.size matroid) (P.Matroid.independent matroid) view.present },
 }

@@ -1,17 +1,12 @@
-use Rattle.std.proofs.Common.{sym, ap, ◌∙◌}
-use Rattle.walk.proofs.Turns.{summed_none, value_more, value_stays}
-use Rattle.walk.proofs.calls.value_of.Goals.{then-contains, else-contains}
+use Rattle.std.proofs.Common.{ℕ, sym, refl, ap, ◌∙◌, List, arith}
+use Rattle.std.specs.List.{fold}
+use Rattle.label_words.proofs.Ascending.{listed_to}
+use Rattle.walk.proofs.Turns.{gained, summed_listed}
 use Rattle.walk.proofs.calls.value_of.Goals as goal
 
-pub loop-i-init : goal.loop-i-init
-loop-i-init g c = summed_none _ _ _ c.args.set _ c.zero-value.ensures
-
-pub loop-i-preserved : goal.loop-i-preserved
-loop-i-preserved g c =
-    let m = g.M.Measure in let i = c.loop-i.i in let v = c.loop-i.value in
-    elim c.if-contains.branch [
-      | then-contains w ↦
-          w.value-is ∙ w.sum-value.ensures ∙ ap (m.sum v) w.worth.ensures
-          ∙ value_more m.zero m.sum (m.worth c.args.measure.now) c.args.set i v c.loop-i.invariant (sym c.contains.ensures ∙ w.if-contains.true)
-      | else-contains w ↦ w.value-is ∙ value_stays m.zero m.sum (m.worth c.args.measure.now) c.args.set i v c.loop-i.invariant (sym c.contains.ensures ∙ w.if-contains.false)
-    ]
+pub loop-label-init : goal.loop-label-init
+loop-label-init g c =
+    let m = g.M.Measure in let n = c.args.n in let worth = m.worth c.args.measure.now in
+    let all = c.into_iter-label-iterator.ensures.into_iter_gives ∙ c.labels_of-label-items.ensures ∙ listed_to c.args.set n n _ (omega (arith, c.requires)) refl c.full_to.ensures in
+    summed_listed m.zero m.sum worth c.args.set n ∙ ap (λ (es : List ℕ). fold (gained m.sum worth) m.zero es) (sym all)
+    ∙ ap (λ (v : g.row.M-Value.Denot). fold (gained m.sum worth) v c.into_iter-label-iterator.result) (sym c.zero-value.ensures)

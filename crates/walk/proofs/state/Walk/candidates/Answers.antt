@@ -1,33 +1,18 @@
-use Rattle.std.proofs.Common.{◌+◌, ◌≤◌, sym, ap, ◌∙◌, arith}
-use Rattle.labels.specs.Sets.{has, passing, swap}
-use Rattle.label_words.proofs.Held.{insert_is, swap_is}
-use Rattle.walk.specs.States.{swappable}
-use Rattle.walk.proofs.Turns.{none_passing, passes, fails, apart_both, apart_first, apart_none}
-use Rattle.walk.proofs.state.Walk.candidates.Goals.{then-contains-inside+then-is_independent, then-contains-inside+else-is_independent, else-contains-inside}
+use Rattle.std.proofs.Common.{rules, ◌≡◌, ℕ, ◌-◌, ◌<◌, ◌≤◌, sym, ap, ◌∙◌, arith}
+use Rattle.std.specs.List.{fold}
+use Rattle.labels.specs.Sets.{has, differs}
+use Rattle.label_words.proofs.Ascending.{listed_to}
+use Rattle.walk.proofs.Turns.{partnered, partners_listed, others_in, others_out}
+use Rattle.walk.proofs.state.Walk.candidates.Goals.{then-contains, else-contains}
 use Rattle.walk.proofs.state.Walk.candidates.Goals as goal
 
-pub loop-i-init : goal.loop-i-init
-loop-i-init g c = none_passing _
-
-pub loop-i-preserved : goal.loop-i-preserved
-loop-i-preserved g c =
-    let f = g.P.Matroid.independent c.args.self.now.matroid in let s = c.args.self.now.present in let e = c.args.label in
-    let i = c.loop-i.i in let t = swappable f s e in let end = c.saturating_sub-i-end.ensures in
-    let small : i + 1 ≤ 64 = omega arith in let high : 1 ≤ e = omega arith in
-    elim c.if-contains-inside.branch [
-      | then-contains-inside+then-is_independent w ↦
-          let made = swap_is s e (i + 1) _ high c.requires (omega arith) small w.swapped.ensures in
-          w.found-is ∙ insert_is c.loop-i.found (i + 1) _ (omega arith) small w.inserted-found.ensures
-          ∙ passes t i c.loop-i.found c.loop-i.invariant
-          (apart_both (has s (i + 1)) (has s e) _ _ c.contains.ensures c.contains-inside.ensures (f (swap s e (i + 1))) w.if-contains-inside.true (sym (ap f made) ∙ sym w.is_independent.ensures ∙ w.if-is_independent.true))
-      | then-contains-inside+else-is_independent w ↦
-          let made = swap_is s e (i + 1) _ high c.requires (omega arith) small w.swapped.ensures in
-          w.found-is ∙ fails t i c.loop-i.found c.loop-i.invariant
-          (apart_first (has s (i + 1)) (has s e) _ _ c.contains.ensures c.contains-inside.ensures (f (swap s e (i + 1))) w.if-contains-inside.true (sym (ap f made) ∙ sym w.is_independent.ensures ∙ w.if-is_independent.false))
-      | else-contains-inside w ↦
-          w.found-is ∙ fails t i c.loop-i.found c.loop-i.invariant
-          (apart_none (has s (i + 1)) (has s e) _ _ c.contains.ensures c.contains-inside.ensures (f (swap s e (i + 1))) w.if-contains-inside.false)
-    ]
-
-pub returns : goal.returns
-returns g c = c.loop-i.invariant ∙ ap (passing _) (omega (arith, c.saturating_sub-i-end.ensures))
+pub loop-other-init : goal.loop-other-init
+loop-other-init g c =
+    let f = g.P.Matroid.independent c.args.self.now.matroid in let t = c.args.self.now.view.present in let e = c.args.label in
+    let fits : t < 18446744073709551616 = search rules in
+    let same : (o : ℕ) → 1 ≤ o → o < e → has c.if-contains.others o ≡ differs (has t e) (has t o) = elim c.if-contains.branch [
+      | then-contains w ↦ λ o l k. ap (λ (s : ℕ). has s o) w.others-is ∙ others_out t e (omega arith) c.requires (sym c.contains.ensures ∙ w.if-contains.true) o l k
+      | else-contains w ↦ λ o l k. ap (λ (s : ℕ). has s o) w.others-is ∙ others_in t e (sym c.contains.ensures ∙ w.if-contains.false) o l k
+    ] in
+    let all = c.into_iter-other-iterator.ensures.into_iter_gives ∙ c.labels_of-other-items.ensures ∙ listed_to c.if-contains.others (e - 1) _ _ (omega (arith, c.requires)) (omega (arith, c.saturating_sub.ensures)) c.full_to.ensures in
+    partners_listed f t e c.if-contains.others c.requires same ∙ ap (fold (partnered f t e) 0) (sym all)

@@ -1,7 +1,10 @@
 use Rattle.std.proofs.Common.{◌≡◌}
-use Rattle.labels.specs.Sets.{passing}
-use Rattle.walk.specs.States.{swappable}
+use Rattle.std.specs.List.{fold}
+use Rattle.walk.specs.States.{partners}
+use Rattle.walk.proofs.Turns.{partnered}
 use Rattle.walk.proofs.state.Walk.candidates.Given as goal
 
-abbrev pub invariant-loop-i : goal.invariant-loop-i
-invariant-loop-i g l = l.found ≡ passing (swappable (g.P.Matroid.independent l.self.matroid) l.self.present l.label) l.i
+-- what the labels still to come will make of those found
+abbrev pub invariant-loop-other : goal.invariant-loop-other
+invariant-loop-other g l =
+    let f = g.P.Matroid.independent l.self.matroid in let t = l.self.view.present in partners f t l.label ≡ fold (partnered f t l.label) l.found l.other-iterator

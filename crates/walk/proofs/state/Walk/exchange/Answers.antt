@@ -1,27 +1,40 @@
-use Rattle.std.proofs.Common.{refl, arith}
+use Rattle.std.proofs.Common.{refl, sym, ap, ◌∙◌, subst, arith}
+use Rattle.labels.specs.Sets.{swap}
 use Rattle.label_words.proofs.Held.{swap_is}
+use Rattle.matroid_laws.specs.Matroids.{Base}
 use Rattle.walk.specs.States.{setting, state_of}
 use Rattle.walk.proofs.Made.{few_after, chosen, exchange_is, after_is}
+use Rattle.walk.proofs.Sound.{sound}
+use Rattle.walk.proofs.Advance.{partner_some, advance_base, advance_to}
 use Rattle.walk.proofs.state.Walk.exchange.Goals as goal
 
 pub invariant_of-self-2 : goal.invariant_of-self-2
 invariant_of-self-2 g c =
-    let s = c.args.self.now in
-    record { bounded = few_after s.count s.active c.args.label _ s.bounded c.requires.active (c.reopened-self.ensures.inside (omega (arith, c.requires.low))) }
+    let s = c.args.self.now in let e = c.args.label in let low = c.choose-low.result in let M = c.requires in let few = g.met.P.Matroid.few s.matroid in
+    let w = setting g.P.Matroid g.R.TieRule g.M.Measure s.matroid s.measure in
+    let W = sound g.P.Matroid g.R.TieRule g.M.Measure s.matroid s.measure (g.met.P.Matroid.matroid s.matroid) g.met.R.TieRule.lawful g.met.M.Measure.lawful in
+    let l = chosen w.choice w.next g.met.R.TieRule.lawful s.rule e c.args.found low c.choose-low.ensures.choice (partner_some w.n w.independent s.view.present s.view.active e c.args.found M) in
+    record {
+      bounded = few_after s.view.count s.view.active e _ s.bounded M.active_is (c.reopened-view.ensures.inside (omega (arith, M.high)));
+      based = subst (Base w.n w.independent)
+          (sym (swap_is s.view.present e low _ M.low (omega (arith, M.high)) l.0 (omega (arith, l.1, M.high)) c.swapped-view.ensures ∙ ap (swap s.view.present e) c.choose-low.ensures.choice))
+          (advance_base w W (state_of s) s.based e c.args.found M);
+    }
 
 pub returns : goal.returns
 returns g c =
-    let s = c.args.self.now in let e = c.args.label in let low = c.choose-low.result in
+    let s = c.args.self.now in let e = c.args.label in let low = c.choose-low.result in let M = c.requires in let few = g.met.P.Matroid.few s.matroid in
     let w = setting g.P.Matroid g.R.TieRule g.M.Measure s.matroid s.measure in
-    let small = c.requires.low in
-    let l = chosen w.choice w.next g.met.R.TieRule.lawful s.rule e c.args.found low c.choose-low.ensures.choice c.requires.some in
+    let W = sound g.P.Matroid g.R.TieRule g.M.Measure s.matroid s.measure (g.met.P.Matroid.matroid s.matroid) g.met.R.TieRule.lawful g.met.M.Measure.lawful in
+    let l = chosen w.choice w.next g.met.R.TieRule.lawful s.rule e c.args.found low c.choose-low.ensures.choice (partner_some w.n w.independent s.view.present s.view.active e c.args.found M) in
     let x = exchange_is w (state_of s) e c.args.found low c.contains-came.result c.choose-low.ensures.choice c.contains-came.ensures in
+    let made = after_is w (state_of s) e c.args.found low _ _ _ _ _ _ c.choose-low.ensures.choice x
+    (swap_is s.view.present e low _ M.low (omega (arith, M.high)) l.0 (omega (arith, l.1, M.high)) c.swapped-view.ensures)
+    (c.reopened-view.ensures.inside (omega (arith, M.high)))
+    c.value_after-value.ensures c.sum-view.ensures c.choose-low.ensures.next in
     record {
-      matroid = refl;
-      measure = refl;
+      keeps = record { matroid = refl; measure = refl };
       answer = x;
-      after = after_is w (state_of s) e c.args.found low _ _ _ _ _ _ c.choose-low.ensures.choice x
-          (swap_is s.present e low _ (omega arith) (omega arith) l.0 (omega arith) c.swapped-self.ensures)
-          (c.reopened-self.ensures.inside (omega arith))
-          c.value_after-value.ensures c.sum-self.ensures c.choose-low.ensures.next;
+      after = made;
+      step = advance_to w W (state_of s) s.based e c.args.found M _ _ x made;
     }
