@@ -1,6 +1,5 @@
-ghost use Rattle.std.specs.Prelude.{◌≡◌, ◌<◌, [], ◌∷◌, ◌++◌, length, MatchResult};
-ghost use Rattle.entries.specs.Table.{values};
-ghost use Rattle.labels.specs.Sets.{limit};
+ghost use Rattle.std.specs.Prelude.{◌≡◌, []};
+ghost use Rattle.entries.specs.Table.{Adds, values};
 
 use crate::table::Entries;
 use entry::EntryRefusal;
@@ -19,12 +18,7 @@ impl<V: Copy> Entries<V> {
 
     /// Adds the value of the next label. Refused, with nothing changed, if there can be no such label.
     pub fn add(&mut self, value: V) -> Result<(), EntryRefusal>
-        ensures { MatchResult result
-            (λ _. (length (values self.old) < limit)
-            × (values self.new ≡ values self.old ++ value ∷ []))
-            (λ e. (length (values self.old) ≡ limit)
-            × (e ≡ EntryRefusal.TooManyLabels)
-            × (self.new ≡ self.old)) }
+        ensures { Adds values self.old value result self.new }
     {
         if self.used as usize == LIMIT {
             return Err(EntryRefusal::TooManyLabels);

@@ -1,6 +1,10 @@
 -- The graph that the code holds, by its labels.
-use Rattle.std.specs.Prelude.{◌≡◌, ℕ, zero, suc, ◌+◌, ◌-◌, ◌<◌, ◌≤◌, Bool, true, false, cond, List, [], ◌∷◌, ◌++◌, map, length, get_or, take, Some, None, Ok, bit_xor, slice_index_or, slice_set, refl}
-use Rattle.std.proofs.Common.{sym, ap, ◌∙◌, subst, add-one, arith, length-take-le, take-suc-set, get_or-take}
+use Rattle.std.specs.Prelude.{◌≡◌, ℕ, zero, suc, ◌+◌, ◌<◌, ◌≤◌, Bool, true, false, cond, ◌⊎◌, List, [], ◌∷◌, ◌++◌, map, length, get_or, take, Some, None, Option, MatchOption, Ok, bit_xor, slice_get, slice_set, refl}
+use Rattle.std.proofs.Common.{sym, ap, ◌∙◌, subst, inl, inr, add-one, arith, take-suc-set}
+use Rattle.std.specs.Option.{option_map}
+use Rattle.std.proofs.lemmas.Option.{slice_get_cases}
+use Rattle.entries.specs.Table.{entry_at, values}
+use Rattle.entries.proofs.Places.{values_few}
 use Rattle.std.proofs.Math.ListN.{get_or-eq_default}
 use Rattle.std.proofs.lemmas.List.{get_or-map, map-append, length-map}
 use Rattle.std.proofs.lemmas.Bool.Decides.{nat_tests}
@@ -12,14 +16,6 @@ use Rattle.graphic.specs.declared.graph.Graphic.{Graphic}
 use Rattle.graphic.specs.Points.{in_range}
 use Rattle.graphic.specs.Graphs.{ends, first_end, second_end, ends_at, admitted}
 use Rattle.graphic.specs.Edges.{ends_of, graph}
-
--- of tests alone
-in_range_tells : (n x : ℕ) → in_range n x ≡ true → (1 ≤ x) × (x ≤ n)
-in_range_tells n x h = (grind (arith, nat_tests), grind (arith, nat_tests))
-
--- the answer of a test that comes first
-chosen : {A : Type 0} (b c : Bool) (x y : A) → b ≡ c → cond b x y ≡ cond c x y
-chosen b c x y e = ap (λ (t : Bool). cond t x y) e
 
 -- a loop at the point 1
 loop : Edge
@@ -35,46 +31,54 @@ loop = record {
 }
 
 module _ (g : Graphic) where
-  pub graph_length : length (graph g) ≡ g.size
-  graph_length = length-map (take g.size g.edges) ends_of ∙ length-take-le g.size g.edges (omega arith)
+  pub graph_length : length (graph g) ≡ length (values g.edges)
+  graph_length = length-map (values g.edges) ends_of
 
   pub graph_few : length (graph g) ≤ limit
-  graph_few = omega (arith, graph_length)
+  graph_few = omega (arith, graph_length, values_few g.edges)
 
-  -- an edge in use, as it is read; d stands where the list has ended
-  ends_read : (label : ℕ) (d : Edge) → 1 ≤ label → label ≤ g.size → ends (graph g) label ≡ ends_of (slice_index_or g.edges (label - 1) d)
-  ends_read zero d l h = absurd (omega arith)
-  ends_read (suc k) d l h =
-      get_or-map ends_of (take g.size g.edges) k d (0, 0) (omega (arith, length-take-le g.size g.edges (omega arith)))
-      ∙ ap ends_of (get_or-take g.size g.edges k d (omega arith) ∙ ap (λ (j : ℕ). get_or g.edges j d) (let z : k ≡ suc k - 1 = omega arith in z))
+  -- an edge that there is
+  ends_read : (k : ℕ) (d : Edge) → k < length (values g.edges) → ends (graph g) (suc k) ≡ ends_of (get_or (values g.edges) k d)
+  ends_read k d l = get_or-map ends_of (values g.edges) k d (0, 0) l
 
-  ends_none : (label : ℕ) → (1 ≤ label → label ≤ g.size → ⊥) → ends (graph g) label ≡ (0, 0)
-  ends_none zero f = refl
-  ends_none (suc k) f = get_or-eq_default (graph g) (0, 0) (let n : (suc k ≤ g.size → ⊥) = f (omega arith) in omega (arith, graph_length))
+  ends_none : (k : ℕ) → length (values g.edges) ≤ k → ends (graph g) (suc k) ≡ (0, 0)
+  ends_none k l = get_or-eq_default (graph g) (0, 0) (omega (arith, graph_length))
 
   pub joined : Joined (length (graph g)) (first_end (graph g)) (second_end (graph g))
-  joined e l h =
-      let d = get_or g.edges (e - 1) loop in
-      subst (λ (p : ℕ × ℕ). (1 ≤ p.0) × (1 ≤ p.1)) (sym (ends_read e loop l (omega (arith, graph_length)))) (d.alow, d.blow)
+  joined zero l h = absurd (omega arith)
+  joined (suc k) l h =
+      let d = get_or (values g.edges) k loop in
+      subst (λ (p : ℕ × ℕ). (1 ≤ p.0) × (1 ≤ p.1)) (sym (ends_read k loop (omega (arith, graph_length)))) (d.alow, d.blow)
 
   -- ---- what the code reads
 
-  pub ends_found : (label : ℕ) (d : Edge) → in_range g.size label ≡ true → Some (ends_of (slice_index_or g.edges (label - 1) d)) ≡ ends_at (graph g) label
-  ends_found label d h =
-      let r = in_range_tells g.size label h in
-      ap (λ (p : ℕ × ℕ). Some p) (sym (ends_read label d r.0 r.1))
-      ∙ sym (chosen (in_range (length (graph g)) label) true (Some (ends (graph g) label)) None (ap (λ (n : ℕ). in_range n label) graph_length ∙ h))
+  at : (label : ℕ) (b : Bool) → in_range (length (graph g)) label ≡ b → ends_at (graph g) label ≡ cond b (Some (ends (graph g) label)) None
+  at label b e = ap (λ (t : Bool). cond t (Some (ends (graph g) label)) None) e
 
-  pub ends_missing : (label : ℕ) → in_range g.size label ≡ false → None ≡ ends_at (graph g) label
-  ends_missing label h = sym (chosen (in_range (length (graph g)) label) false (Some (ends (graph g) label)) None (ap (λ (n : ℕ). in_range n label) graph_length ∙ h))
+  pub ends_are : (label : ℕ) → option_map ends_of (entry_at (values g.edges) label) ≡ ends_at (graph g) label
+  ends_are zero = sym (at zero false refl)
+  ends_are (suc k) = go (slice_get_cases (values g.edges) k).1
+    where
+      go : ((x : Edge) × (k < length (values g.edges)) × (slice_get (values g.edges) k ≡ Some x) × (get_or (values g.edges) k x ≡ x))
+          ⊎ ((length (values g.edges) ≤ k) × (slice_get (values g.edges) k ≡ None)) → option_map ends_of (slice_get (values g.edges) k) ≡ ends_at (graph g) (suc k)
+      go (inl (x, l, q, r)) =
+          ap (option_map ends_of) q ∙ ap (λ (p : ℕ × ℕ). Some p) (ap ends_of (sym r) ∙ sym (ends_read k x l))
+          ∙ sym (at (suc k) true (let n = graph_length in grind (arith, nat_tests)))
+      go (inr (l, q)) = ap (option_map ends_of) q ∙ sym (at (suc k) false (let n = graph_length in grind (arith, nat_tests)))
 
-  pub column_read : (label : ℕ) (d : Edge) → 1 ≤ label → label ≤ g.size
-      → (get_or g.edges (label - 1) d).column ≡ incidence (first_end (graph g)) (second_end (graph g)) label
-  column_read label d l h =
-      (get_or g.edges (label - 1) d).joins ∙ sym (ap (λ (p : ℕ × ℕ). bit_xor (single p.0) (single p.1)) (ends_read label d l h))
-
-  pub column_none : (label : ℕ) → (1 ≤ label → label ≤ g.size → ⊥) → 0 ≡ incidence (first_end (graph g)) (second_end (graph g)) label
-  column_none label f = sym (ap (λ (p : ℕ × ℕ). bit_xor (single p.0) (single p.1)) (ends_none label f) ∙ xor_same (single 0))
+  pub column_is : (label : ℕ) (c : ℕ) → MatchOption (entry_at (values g.edges) label) (c ≡ 0) (λ e. c ≡ e.column)
+      → c ≡ incidence (first_end (graph g)) (second_end (graph g)) label
+  column_is zero c h = h ∙ sym (xor_same (single 0))
+  column_is (suc k) c h = go (slice_get_cases (values g.edges) k).1
+    where
+      go : ((x : Edge) × (k < length (values g.edges)) × (slice_get (values g.edges) k ≡ Some x) × (get_or (values g.edges) k x ≡ x))
+          ⊎ ((length (values g.edges) ≤ k) × (slice_get (values g.edges) k ≡ None)) → c ≡ incidence (first_end (graph g)) (second_end (graph g)) (suc k)
+      go (inl (x, l, q, r)) =
+          subst (λ (o : Option Edge). MatchOption o (c ≡ 0) (λ e. c ≡ e.column)) q h ∙ x.joins
+          ∙ sym (ap (λ (p : ℕ × ℕ). bit_xor (single p.0) (single p.1)) (ends_read k x l ∙ ap ends_of r))
+      go (inr (l, q)) =
+          subst (λ (o : Option Edge). MatchOption o (c ≡ 0) (λ e. c ≡ e.column)) q h
+          ∙ sym (ap (λ (p : ℕ × ℕ). bit_xor (single p.0) (single p.1)) (ends_none k l) ∙ xor_same (single 0))
 
 -- what an entry makes
 

@@ -6,26 +6,14 @@ ghost use Rattle.std.specs.Prelude.{◌≡◌, true, false, [], length, is_ok, M
 
 use crate::edge::Edge;
 use crate::graph::Graphic;
+use entries::Entries;
 use entry::{EntryRefusal, MOST_POINTS};
 
 /// Whether `x` is one of 1 to `last`.
 fn in_range(last: u8, x: u8) -> bool
     ensures { result ≡ in_range last x }
 {
-    1 <= x && x <= last
-}
-
-/// Whether the edge from `a` to `b` may join a graph with so many points and edges.
-fn admit(points: u8, size: u8, a: u8, b: u8) -> Result<(), EntryRefusal>
-    ensures { result ≡ admitted points size a b }
-{
-    if !in_range(points, a) || !in_range(points, b) {
-        return Err(EntryRefusal::OutOfRange);
-    }
-    if size as usize >= labels::LIMIT {
-        return Err(EntryRefusal::TooManyLabels);
-    }
-    Ok(())
+    (1..=last).contains(&x)
 }
 
 impl Graphic {
@@ -39,8 +27,7 @@ impl Graphic {
         }
         Ok(Graphic {
             points,
-            size: 0,
-            edges: [Edge::new(1, 1); labels::LIMIT],
+            edges: Entries::new(Edge::new(1, 1)),
         })
     }
 
@@ -51,10 +38,10 @@ impl Graphic {
         ensures added { is_ok result ≡ true → Extended self.old a b self.new }
         ensures refused { is_ok result ≡ false → self.new ≡ self.old }
     {
-        admit(self.points, self.size, a, b)?;
-        self.edges[self.size as usize] = Edge::new(a, b);
-        self.size += 1;
-        Ok(())
+        if !in_range(self.points, a) || !in_range(self.points, b) {
+            return Err(EntryRefusal::OutOfRange);
+        }
+        self.edges.add(Edge::new(a, b))
     }
 
     /// How many points there are.
@@ -68,10 +55,7 @@ impl Graphic {
     pub fn ends(&self, label: u8) -> Option<(u8, u8)>
         ensures { result ≡ ends_at (graph self.now) label }
     {
-        if !in_range(self.size, label) {
-            return None;
-        }
-        let edge = self.edges[label as usize - 1];
+        let edge = self.edges.get(label)?;
         Some((edge.a, edge.b))
     }
 }

@@ -19,14 +19,11 @@ impl BinaryMatrix for Graphic {
     ghost narrow = { graph_few };
 
     fn width(&self) -> u8 {
-        self.size
+        self.edges.len()
     }
 
     fn column(&self, label: u8) -> u64 {
-        if label == 0 || label > self.size {
-            return 0;
-        }
-        self.edges[label as usize - 1].column
+        self.edges.get(label).map_or(0, |edge| edge.column)
     }
 }
 

@@ -1,13 +1,9 @@
-use Rattle.std.proofs.Common.{arith}
-use Rattle.graphic.specs.GraphsLemmas.{column_read, column_none}
+use Rattle.std.proofs.Common.{rules, ◌≡◌, MatchOption}
+use Rattle.entries.specs.Table.{entry_at, values}
+use Rattle.graphic.specs.GraphsLemmas.{column_is}
 use Rattle.graphic.proofs.independence.GraphicBinaryMatrix.column.Goals as goal
-use Rattle.graphic.proofs.independence.GraphicBinaryMatrix.column.Goals.{then-label-eq0-via-then-label-eq0, then-label-eq0-via-else-label-eq0+then-label-self}
-
-pub returns-then-label-eq0 : goal.returns-then-label-eq0
-returns-then-label-eq0 c = elim c.then-label-eq0.branch [
-  | then-label-eq0-via-then-label-eq0 w ↦ column_none c.args.self.now c.args.label (λ l h. omega arith)
-  | then-label-eq0-via-else-label-eq0+then-label-self w ↦ column_none c.args.self.now c.args.label (λ l h. omega arith)
-]
 
 pub returns : goal.returns
-returns c = column_read c.args.self.now c.args.label c.index-self-label.result (omega arith) c.if-label-self.false
+returns c =
+    let read : MatchOption (entry_at (values c.args.self.now.edges) c.args.label) (c.map_or.result ≡ 0) (λ e. c.map_or.result ≡ e.column) = search rules in
+    column_is c.args.self.now c.args.label c.map_or.result read
