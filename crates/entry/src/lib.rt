@@ -1,8 +1,11 @@
 //! What whoever enters labels by hand can be refused.
 #![tactic(auto)]
 
-ghost use Rattle.entry.specs.Numbers.{entry_number};
-ghost use Rattle.std.specs.Prelude.{◌≡◌};
+ghost use Rattle.entry.specs.Numbers.{entry_number, entry_text};
+ghost use Rattle.std.specs.Prelude.{◌≡◌, Some};
+
+use std::error::Error;
+use std::fmt;
 
 /// The most points that a graph can have; `most_points` in clauses.
 pub const MOST_POINTS: u8 = 32;
@@ -27,6 +30,20 @@ impl EntryRefusal {
         }
     }
 }
+
+/// The refusal in words.
+impl fmt::Display for EntryRefusal {
+    ghost output = { λ r. Some (entry_text r) };
+
+    fn fmt<W: fmt::Write>(&self, f: &mut fmt::Formatter<W>) -> fmt::Result {
+        match self {
+            EntryRefusal::OutOfRange => write!(f, "out of range"),
+            EntryRefusal::TooManyLabels => write!(f, "a label too many"),
+        }
+    }
+}
+
+impl Error for EntryRefusal {}
 
 #[cfg(test)]
 mod tests;
