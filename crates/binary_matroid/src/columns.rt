@@ -1,6 +1,6 @@
-ghost use Rattle.std.specs.Prelude.{◌≡◌, ◌<◌, [], ◌∷◌, ◌++◌, length, MatchResult};
+ghost use Rattle.std.specs.Prelude.{◌≡◌, []};
 ghost use Rattle.binary_matroid.specs.Columns.{columns};
-ghost use Rattle.labels.specs.Sets.{limit};
+ghost use Rattle.entries.specs.Table.{Adds};
 
 use crate::matrix::Binary;
 use entries::Entries;
@@ -18,12 +18,7 @@ impl Binary {
 
     /// Adds the column of the next label: its places are the binary digits. Refused, with nothing changed, if there can be no such label.
     pub fn add(&mut self, column: u64) -> Result<(), EntryRefusal>
-        ensures { MatchResult result
-            (λ _. (length (columns self.old) < limit)
-            × (columns self.new ≡ columns self.old ++ column ∷ []))
-            (λ e. (length (columns self.old) ≡ limit)
-            × (e ≡ EntryRefusal.TooManyLabels)
-            × (self.new ≡ self.old)) }
+        ensures { Adds columns self.old column result self.new }
     {
         self.table.add(column)
     }

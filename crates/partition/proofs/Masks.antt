@@ -1,8 +1,8 @@
 -- The labels of each class as a word.
-use Rattle.std.proofs.Common.{◌≡◌, ℕ, zero, suc, ◌-◌, ◌≤◌, Bool, true, false, cond, ◌&&◌, eqb, List, [], ◌∷◌, ◌++◌, length, get_or, set, replicate, sym, refl, ap, ◌∙◌, ap₂, add-one, arith}
+use Rattle.std.proofs.Common.{◌≡◌, ℕ, zero, suc, ◌-◌, ◌<◌, ◌≤◌, Bool, true, false, cond, ◌&&◌, eqb, List, [], ◌∷◌, ◌++◌, length, get_or, set, sym, refl, ap, ◌∙◌, ap₂, add-one, arith}
 use native.Mathlib.Decide.{ℕ_discrete}
 use lib.Bits.{bit_and, bit_or}
-use Rattle.std.proofs.lemmas.List.{get_or_append_left, get_or_push, get_or-set_same, get_or-set_other, length_push, get_or-replicate}
+use Rattle.std.proofs.lemmas.List.{get_or_append_left, get_or_push, get_or-set_same, get_or-set_other, length_push, length-map, get_or-map, ext_get_or}
 use Rattle.std.proofs.lemmas.Bool.Decides.{nat_tests}
 use Rattle.labels.specs.Sets.{has, insert, passing, single}
 use Rattle.labels.proofs.Member.{has_and}
@@ -12,6 +12,8 @@ use Rattle.label_words.specs.Words.{word_of}
 use Rattle.label_words.proofs.Held.{word_in}
 use Rattle.partition_laws.specs.Partition.{part_in}
 use Rattle.partition.specs.Classes.{class_count, class_at, class_set, Masked}
+use Rattle.partition.specs.Rooms.{limits_by_class, labels_by_class}
+use Rattle.partition.specs.declared.room.Room.{Room}
 
 -- the labels of s in class i, by the word of that class
 pub part_is : (cs : List ℕ) (s i : ℕ) → bit_and s (class_set cs i) ≡ part_in (length cs) (class_at cs) s i
@@ -21,10 +23,30 @@ part_is cs s i = ext _ _ (λ e.
     let q = has_passing (λ e. has s e && eqb (class_at cs e) i) (length cs) e in
     grind (arith, nat_tests))
 
--- no label yet
-pub none_masked : (cs : List ℕ) → cs ≡ [] → Masked cs (replicate class_count 0)
-unfolding passing
-none_masked cs z i l = get_or-replicate class_count i 0 0 l ∙ ap (λ (ds : List ℕ). class_set ds (suc i)) (sym z)
+-- the rooms that a partition begins with
+module _ (cs ls : List ℕ) (rooms : List Room) (z : cs ≡ []) (n : length ls ≡ class_count) (m : length rooms ≡ class_count)
+    (each : (i : ℕ) → i < class_count → get_or rooms i (record { limit = 0; labels = 0 }) ≡ record { limit = get_or ls i 0; labels = 0 }) where
+  pub masked_at_first : Masked cs (labels_by_class rooms)
+  unfolding passing
+  masked_at_first i l =
+      get_or-map (λ r. r.labels) rooms i (record { limit = 0; labels = 0 }) 0 (omega (arith, m)) ∙ ap (λ (r : Room). r.labels) (each i l)
+      ∙ ap (λ (ds : List ℕ). class_set ds (suc i)) (sym z)
+
+  pub limits_at_first : limits_by_class rooms ≡ ls
+  limits_at_first = ext_get_or 0 (limits_by_class rooms) ls (length-map rooms (λ r. r.limit) ∙ m ∙ sym n) (λ i l.
+      let k : i < class_count = omega (arith, length-map rooms (λ (r : Room). r.limit), m) in
+      get_or-map (λ r. r.limit) rooms i (record { limit = 0; labels = 0 }) 0 (omega (arith, m)) ∙ ap (λ (r : Room). r.limit) (each i k))
+
+-- a write into one room, seen in the lists
+pub labels_set : (rooms : List Room) (k : ℕ) (r : Room) → labels_by_class (set rooms k r) ≡ set (labels_by_class rooms) k r.labels
+labels_set [] k r = refl
+labels_set (x ∷ xs) zero r = refl
+labels_set (x ∷ xs) (suc k) r = ap (λ (ys : List ℕ). x.labels ∷ ys) (labels_set xs k r)
+
+pub limits_set : (rooms : List Room) (k : ℕ) (r d : Room) → r.limit ≡ (get_or rooms k d).limit → limits_by_class (set rooms k r) ≡ limits_by_class rooms
+limits_set [] k r d q = refl
+limits_set (x ∷ xs) zero r d q = ap (λ (l : ℕ). l ∷ limits_by_class xs) q
+limits_set (x ∷ xs) (suc k) r d q = ap (λ (ys : List ℕ). x.limit ∷ ys) (limits_set xs k r d q)
 
 -- one label more, of class c
 module _ (cs : List ℕ) (c : ℕ) where

@@ -1,9 +1,10 @@
 ghost use Rattle.entry.specs.declared.EntryRefusal.TheVariants.{OutOfRange};
 ghost use Rattle.partition.specs.Classes.{admitted, limits_fit};
-ghost use Rattle.partition.specs.Held.{Extended, Unchanged, classes};
+ghost use Rattle.partition.specs.Held.{Extended, Unchanged, classes, limits as limits_of};
 ghost use Rattle.std.specs.Prelude.{◌≡◌, true, false, [], length, is_ok, MatchResult};
 
 use crate::classes::{CLASSES, Partition};
+use crate::room::Room;
 use entries::Entries;
 use entry::EntryRefusal;
 use label_words::inserted;
@@ -12,27 +13,21 @@ use label_words::inserted;
 fn limits_fit(limits: &[u8; CLASSES]) -> bool
     ensures { result ≡ limits_fit limits.now }
 {
-    for i in 0..CLASSES {
-        if limits[i] as usize > labels::LIMIT {
-            return false;
-        }
-    }
-    true
+    limits.iter().all(|limit| *limit as usize <= labels::LIMIT)
 }
 
 impl Partition {
     /// No labels yet, and these limits for the classes 1, 2, .. in turn. Refused as out of range where a limit is above `labels::LIMIT`.
     pub fn new(limits: [u8; CLASSES]) -> Result<Partition, EntryRefusal>
         ensures answer { is_ok result ≡ limits_fit limits }
-        ensures made { MatchResult result (λ p. (p.limits ≡ limits) × (classes p ≡ [])) (λ e. e ≡ OutOfRange) }
+        ensures made { MatchResult result (λ p. (limits_of p ≡ limits) × (classes p ≡ [])) (λ e. e ≡ OutOfRange) }
     {
         if !limits_fit(&limits) {
             return Err(EntryRefusal::OutOfRange);
         }
         Ok(Partition {
-            limits,
             classes: Entries::new(0),
-            masks: [0; CLASSES],
+            rooms: limits.map(|limit| Room { limit, labels: 0 }),
         })
     }
 
@@ -49,7 +44,7 @@ impl Partition {
         self.classes.add(class)?;
         let label = self.classes.len();
         let index = class as usize - 1;
-        self.masks[index] = inserted(self.masks[index], label);
+        self.rooms[index].labels = inserted(self.rooms[index].labels, label);
         Ok(())
     }
 }

@@ -5,6 +5,7 @@
 mod classes;
 mod entering;
 mod independence;
+mod room;
 
 pub use classes::{CLASSES, Partition};
 use matroid::Matroid;

@@ -1,11 +1,10 @@
-use Rattle.std.proofs.Common.{sym, arith}
-use Rattle.partition.specs.Classes.{class_count}
-use Rattle.partition.proofs.Limits.{unfit, one_more, found, above, not_above}
+use Rattle.std.proofs.Common.{rules, ◌≤◌, ◌↔◌, IsTrue}
+use Rattle.std.specs.List.{All}
+use Rattle.labels.specs.Sets.{limit}
+use Rattle.partition.proofs.Limits.{fits_is}
 use Rattle.partition.proofs.entering.limits_fit.Goals as goal
 
-pub returns-then-limits-i-gt-LIMIT : goal.returns-then-limits-i-gt-LIMIT
-returns-then-limits-i-gt-LIMIT c =
-    sym (found (unfit c.args.limits.now) class_count c.loop-i.i (omega arith) (above _ _ c.if-limits-i-gt-LIMIT.true))
-
-pub loop-i-preserved : goal.loop-i-preserved
-loop-i-preserved c = one_more (unfit c.args.limits.now) c.loop-i.i c.loop-i.invariant (not_above _ _ c.if-limits-i-gt-LIMIT.false)
+pub returns : goal.returns
+returns c =
+    let q : IsTrue c.all.result ↔ All (λ l. l ≤ limit) c.args.limits.now = search rules in
+    fits_is c.args.limits.now c.all.result (search rules) q

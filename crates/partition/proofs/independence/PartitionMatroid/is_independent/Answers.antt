@@ -1,30 +1,30 @@
 use Rattle.std.proofs.Common.{sym, arith}
 use Rattle.partition.specs.Classes.{class_count}
-use Rattle.partition.specs.Held.{classes}
+use Rattle.partition.specs.Held.{classes, limits}
 use Rattle.partition.proofs.Limits.{over, one_more, found, too_high, low, some_over, none_over, tells_limited, is_over, not_over}
 use Rattle.partition.proofs.independence.PartitionMatroid.is_independent.Goals as goal
 
 pub returns-then-set-size-ne0 : goal.returns-then-set-size-ne0
 returns-then-set-size-ne0 c =
     let p = c.args.self.now in let s = c.args.set in
-    let q = too_high (classes p) p.limits s c.size.result c.size.ensures c.if-set-size-ne0.true in
-    record { is = sym q; limits = tells_limited (classes p) p.limits s _ (sym q) }
+    let q = too_high (classes p) (limits p) s c.size.result c.size.ensures c.if-set-size-ne0.true in
+    record { is = sym q; limits = tells_limited (classes p) (limits p) s _ (sym q) }
 
-pub returns-then-set-self : goal.returns-then-set-self
-returns-then-set-self c =
-    let p = c.args.self.now in let s = c.args.set in let i = c.loop-i.i in
-    let more = is_over (classes p) p.limits s p.masks p.masked i (omega arith) c.if-set-self.true in
-    let q = some_over (classes p) p.limits s (found (over (classes p) p.limits s) class_count i (omega arith) more) in
-    record { is = sym q; limits = tells_limited (classes p) p.limits s _ (sym q) }
+pub returns-then-set-room : goal.returns-then-set-room
+returns-then-set-room c =
+    let p = c.args.self.now in let s = c.args.set in let i = c.loop-room.room-index in
+    let more = is_over (classes p) p.rooms s p.whole p.masked i (omega (arith, p.whole)) _ c.if-set-room.true in
+    let q = some_over (classes p) (limits p) s (found (over (classes p) (limits p) s) class_count i (omega (arith, p.whole)) more) in
+    record { is = sym q; limits = tells_limited (classes p) (limits p) s _ (sym q) }
 
-pub loop-i-preserved : goal.loop-i-preserved
-loop-i-preserved c =
-    let p = c.args.self.now in let s = c.args.set in let i = c.loop-i.i in
-    one_more (over (classes p) p.limits s) i c.loop-i.invariant (not_over (classes p) p.limits s p.masks p.masked i (omega arith) c.if-set-self.false)
+pub loop-room-preserved : goal.loop-room-preserved
+loop-room-preserved c =
+    let p = c.args.self.now in let s = c.args.set in let i = c.loop-room.room-index in
+    one_more (over (classes p) (limits p) s) i c.loop-room.invariant (not_over (classes p) p.rooms s p.whole p.masked i (omega (arith, p.whole)) _ c.if-set-room.false)
 
 pub returns : goal.returns
 returns c =
     let p = c.args.self.now in let s = c.args.set in
     let inside = low (classes p) s c.size.result c.size.ensures c.if-set-size-ne0.false in
-    let q = none_over (classes p) p.limits s c.loop-i.i (omega arith) inside c.loop-i.invariant in
-    record { is = sym q; limits = tells_limited (classes p) p.limits s _ (sym q) }
+    let q = none_over (classes p) (limits p) s c.loop-room.room-index (omega (arith, c.loop-room-test.false, c.loop-room.auto.room-index-end)) inside c.loop-room.invariant in
+    record { is = sym q; limits = tells_limited (classes p) (limits p) s _ (sym q) }
