@@ -34,8 +34,7 @@ fn digested(digest: u64, x: Exchange) -> u64 {
 /// What each label is worth.
 fn shifts() -> Shifts {
     let mut shifts = Shifts::new();
-    for i in 0..LIMIT {
-        let label = i as i64 + 1;
+    for label in 1..=LIMIT as i64 {
         let _ = shifts.add(label, label.wrapping_mul(label).wrapping_neg());
     }
     shifts
@@ -50,12 +49,7 @@ fn run<P: Matroid + Drop>(matroid: P, most: u64) -> Outcome {
         };
         digest = digested(digest, x);
     }
-    let Parts {
-        matroid: _,
-        rule: _,
-        measure: _,
-        view,
-    } = walk.close();
+    let Parts { view, .. } = walk.close();
     Outcome {
         count: view.count,
         digest,
@@ -66,58 +60,56 @@ fn run<P: Matroid + Drop>(matroid: P, most: u64) -> Outcome {
 
 /// The graph of the pairs of `ends`, each two bytes.
 fn graph_of(points: u8, ends: &[u8]) -> Option<Graphic> {
-    let Ok(empty) = Graphic::new(points) else {
-        return None;
-    };
-    let mut graphic = empty;
-    for i in 0..ends.len() / 2 {
-        let Ok(()) = graphic.add(ends[2 * i], ends[2 * i + 1]) else {
-            return None;
-        };
+    let mut graphic = Graphic::new(points).ok()?;
+    for pair in ends.chunks_exact(2) {
+        graphic.add(pair[0], pair[1]).ok()?;
     }
     Some(graphic)
+}
+
+/// The binary matroid of these columns.
+fn binary_of(words: &[u64]) -> Option<Binary> {
+    let mut binary = Binary::new();
+    for word in words {
+        binary.add(*word).ok()?;
+    }
+    Some(binary)
+}
+
+/// Writes how the walk over a matroid ended, if there is one; answers whether there is.
+fn write<P: Matroid + Drop>(matroid: Option<P>, most: u64, outcome: &mut Outcome) -> bool {
+    let Some(matroid) = matroid else {
+        return false;
+    };
+    *outcome = run(matroid, most);
+    true
 }
 
 /// A walk over the spanning trees of a graph.
 #[unsafe(no_mangle)]
 pub extern "C" fn timed_seams(points: u8, ends: &[u8], most: u64, outcome: &mut Outcome) -> bool {
-    let Some(graphic) = graph_of(points, ends) else {
-        return false;
-    };
-    *outcome = run(graphic, most);
-    true
+    write(graph_of(points, ends), most, outcome)
 }
 
 /// A walk over the complements of the spanning trees.
 #[unsafe(no_mangle)]
 pub extern "C" fn timed_dual(points: u8, ends: &[u8], most: u64, outcome: &mut Outcome) -> bool {
-    let Some(graphic) = graph_of(points, ends) else {
-        return false;
-    };
-    *outcome = run(Dual::new(graphic), most);
-    true
+    write(graph_of(points, ends).map(Dual::new), most, outcome)
 }
 
-/// A walk over a pile of three layers: the dual of a minor, capped.
+/// The dual of a minor, capped.
+fn pile(graphic: Graphic) -> Truncation<Dual<Minor<Graphic>>> {
+    Truncation::new(Dual::new(Minor::new(graphic, 0b1, 0b10)), 3)
+}
+
+/// A walk over a pile of three layers.
 #[unsafe(no_mangle)]
 pub extern "C" fn timed_pile(points: u8, ends: &[u8], most: u64, outcome: &mut Outcome) -> bool {
-    let Some(graphic) = graph_of(points, ends) else {
-        return false;
-    };
-    let minor = Minor::new(graphic, 0b1, 0b10);
-    *outcome = run(Truncation::new(Dual::new(minor), 3), most);
-    true
+    write(graph_of(points, ends).map(pile), most, outcome)
 }
 
 /// A walk over the bases of a binary matroid.
 #[unsafe(no_mangle)]
 pub extern "C" fn timed_buttons(words: &[u64], most: u64, outcome: &mut Outcome) -> bool {
-    let mut binary = Binary::new();
-    for word in words {
-        let Ok(()) = binary.add(*word) else {
-            return false;
-        };
-    }
-    *outcome = run(binary, most);
-    true
+    write(binary_of(words), most, outcome)
 }
