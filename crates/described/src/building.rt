@@ -6,25 +6,24 @@ use graphic::Graphic;
 use partition::{CLASSES, Partition};
 
 /// Why a plan is refused, and at which label, from 1; at 0 where the plan's own numbers are refused.
-#[derive(Clone, Copy)]
+#[derive(Clone, Copy, Debug)]
 pub struct Refusal {
     pub why: EntryRefusal,
     pub label: usize,
 }
 
-/// What was entered for a label, or the refusal of it.
-fn entered<T>(label: usize, entry: Result<T, EntryRefusal>) -> Result<T, Refusal> {
-    match entry {
-        Ok(value) => Ok(value),
-        Err(why) => Err(Refusal { why, label }),
+impl Refusal {
+    /// The refusal of what was entered for `label`.
+    fn at(label: usize, why: EntryRefusal) -> Refusal {
+        Refusal { why, label }
     }
 }
 
 impl Seams {
     pub fn matroid(&self) -> Result<Graphic, Refusal> {
-        let mut graphic = entered(0, Graphic::new(self.points))?;
+        let mut graphic = Graphic::new(self.points).map_err(|why| Refusal::at(0, why))?;
         for (i, (a, b)) in self.pairs.iter().enumerate() {
-            entered(i + 1, graphic.add(*a, *b))?;
+            graphic.add(*a, *b).map_err(|why| Refusal::at(i + 1, why))?;
         }
         Ok(graphic)
     }
@@ -34,7 +33,7 @@ impl Buttons {
     pub fn matroid(&self) -> Result<Binary, Refusal> {
         let mut binary = Binary::new();
         for (i, word) in self.words.iter().enumerate() {
-            entered(i + 1, binary.add(*word))?;
+            binary.add(*word).map_err(|why| Refusal::at(i + 1, why))?;
         }
         Ok(binary)
     }
@@ -43,21 +42,23 @@ impl Buttons {
 impl Loads {
     /// The limits of all classes: 0 for a class that has none. More limits than classes are refused.
     fn class_limits(&self) -> Result<[u8; CLASSES], EntryRefusal> {
-        if self.limits.len() > CLASSES {
-            return Err(EntryRefusal::OutOfRange);
-        }
         let mut limits = [0; CLASSES];
-        for i in 0..CLASSES {
-            limits[i] = self.limits.get(i).copied().unwrap_or(0);
-        }
+        limits
+            .get_mut(..self.limits.len())
+            .ok_or(EntryRefusal::OutOfRange)?
+            .copy_from_slice(&self.limits);
         Ok(limits)
     }
 
     pub fn matroid(&self) -> Result<Partition, Refusal> {
-        let limits = entered(0, self.class_limits())?;
-        let mut partition = entered(0, Partition::new(limits))?;
+        let mut partition = self
+            .class_limits()
+            .and_then(Partition::new)
+            .map_err(|why| Refusal::at(0, why))?;
         for (i, circuit) in self.circuits.iter().enumerate() {
-            entered(i + 1, partition.add(*circuit))?;
+            partition
+                .add(*circuit)
+                .map_err(|why| Refusal::at(i + 1, why))?;
         }
         Ok(partition)
     }

@@ -34,7 +34,7 @@ pub enum Plan {
 }
 
 /// A layer; a set is a word, label `e` at bit `e - 1`.
-#[derive(Clone, Copy)]
+#[derive(Clone, Copy, Debug, PartialEq, Eq)]
 pub enum Layer {
     Dual,
     /// How many labels a set has at most.
@@ -44,7 +44,7 @@ pub enum Layer {
 }
 
 /// Which tie rule is used.
-#[derive(Clone, Copy)]
+#[derive(Clone, Copy, Debug, PartialEq, Eq)]
 pub enum Rule {
     Closest,
     Furthest,
@@ -52,7 +52,7 @@ pub enum Rule {
 }
 
 /// What lies over the plan, and how it is walked.
-#[derive(Clone, Copy)]
+#[derive(Clone, Copy, Debug, PartialEq, Eq)]
 pub struct Course {
     pub lower: Option<Layer>,
     /// None where `lower` is none.
@@ -86,9 +86,7 @@ fn read_seams(reader: &mut Reader, heap: Global) -> Result<Seams, Unread> {
     let count = reader.small()?;
     let mut pairs = Vec::new(heap);
     for _ in 0..count {
-        let a = reader.small()?;
-        let b = reader.small()?;
-        pairs.push((a, b))?;
+        pairs.push((reader.small()?, reader.small()?))?;
     }
     Ok(Seams { points, pairs })
 }
@@ -121,11 +119,7 @@ fn read_layer(reader: &mut Reader) -> Result<Layer, Unread> {
     match reader.word()? {
         b"dual" => Ok(Layer::Dual),
         b"truncation" => Ok(Layer::Truncation(reader.small()?)),
-        b"minor" => {
-            let contracted = reader.number()?;
-            let deleted = reader.number()?;
-            Ok(Layer::Minor(contracted, deleted))
-        }
+        b"minor" => Ok(Layer::Minor(reader.number()?, reader.number()?)),
         _ => Err(Unread::WrongForm),
     }
 }
@@ -135,11 +129,7 @@ fn read_layers(reader: &mut Reader) -> Result<(Option<Layer>, Option<Layer>), Un
     match reader.small()? {
         0 => Ok((None, None)),
         1 => Ok((Some(read_layer(reader)?), None)),
-        2 => {
-            let lower = read_layer(reader)?;
-            let upper = read_layer(reader)?;
-            Ok((Some(lower), Some(upper)))
-        }
+        2 => Ok((Some(read_layer(reader)?), Some(read_layer(reader)?))),
         _ => Err(Unread::WrongForm),
     }
 }
@@ -155,17 +145,13 @@ fn read_rule(reader: &mut Reader) -> Result<Rule, Unread> {
 
 fn read_course(reader: &mut Reader) -> Result<Course, Unread> {
     let (lower, upper) = read_layers(reader)?;
-    let rule = read_rule(reader)?;
-    let offered = reader.number()?;
-    let opened = reader.number()?;
-    let steps = reader.number()?;
     Ok(Course {
         lower,
         upper,
-        rule,
-        offered,
-        opened,
-        steps,
+        rule: read_rule(reader)?,
+        offered: reader.number()?,
+        opened: reader.number()?,
+        steps: reader.number()?,
     })
 }
 

@@ -11,15 +11,8 @@ use walk::Walk;
 /// How many bytes a file has room in.
 const ROOM: usize = 1024;
 
-/// A buffer, and how many of its first bytes are a file.
-#[derive(Clone, Copy)]
-pub struct ChainFile {
-    buffer: [u8; ROOM],
-    length: usize,
-}
-
 /// Why there is no file, and how many exchanges were written before.
-#[derive(Clone, Copy)]
+#[derive(Clone, Copy, Debug)]
 pub struct Unwritten {
     why: WriterRefusal,
     before: u64,
@@ -39,15 +32,14 @@ fn add_exchanges<P: Matroid, R: TieRule>(
             high: x.high,
             low: x.low,
         };
-        if let Err(why) = file.exchange(swap) {
-            return Err(Unwritten { why, before });
-        }
+        file.exchange(swap)
+            .map_err(|why| Unwritten { why, before })?;
     }
     Ok(())
 }
 
-/// Writes the list of a walk over `n` labels, which has made no step yet, with the total of its shifts and then that of the words.
-/// Answers the length of the file.
+/// Writes the list of a walk over `n` labels, which has made no step yet, into the buffer, with the total of its shifts and then that
+/// of the words. Answers the length of the file.
 fn put_list<P: Matroid, R: TieRule>(
     buffer: &mut [u8],
     n: u8,
@@ -55,6 +47,7 @@ fn put_list<P: Matroid, R: TieRule>(
     steps: u64,
     lamps: u64,
 ) -> Result<usize, Unwritten> {
+    // No map_err: the prover does not cover a closure that takes the lent buffer.
     let mut file = match begin(buffer, n, walk.look().present) {
         Ok(file) => file,
         Err(rejected) => {
@@ -72,24 +65,19 @@ fn put_list<P: Matroid, R: TieRule>(
     Ok(totals.end().length)
 }
 
-/// The file of the list of a walk over `n` labels, which has made no step yet.
-pub fn file_of<P: Matroid, R: TieRule>(
+/// Writes the line of the file of the list of a walk over `n` labels, which has made no step yet.
+pub fn write_file<W: Write, P: Matroid, R: TieRule>(
+    out: &mut W,
     n: u8,
     walk: &mut Walk<P, R, Shifts>,
     steps: u64,
     lamps: u64,
-) -> Result<ChainFile, Unwritten> {
+) -> io::Result<()> {
     let mut buffer = [0u8; ROOM];
-    let length = put_list(&mut buffer, n, walk, steps, lamps)?;
-    Ok(ChainFile { buffer, length })
-}
-
-/// Writes the line of a file.
-pub fn write_file<W: Write>(out: &mut W, file: Result<ChainFile, Unwritten>) -> io::Result<()> {
-    match file {
-        Ok(file) => {
+    match put_list(&mut buffer, n, walk, steps, lamps) {
+        Ok(length) => {
             write!(out, "file ")?;
-            for byte in file.buffer.iter().take(file.length) {
+            for byte in buffer.iter().take(length) {
                 write!(out, "{byte:02x}")?;
             }
             writeln!(out)

@@ -1,13 +1,13 @@
 //! The walks over a matroid, and what is printed of them.
 use crate::description::Course;
-use crate::filing::{file_of, write_file};
+use crate::filing::write_file;
 use labels::LIMIT;
 use matroid::{Matroid, rank};
 use measure::{Measure, Shift, Shifts, Words};
 use std::io;
 use std::io::Write;
 use tie_rule::TieRule;
-use walk::{Parts, View, Walk};
+use walk::{Parts, Walk};
 
 /// Label `e` is worth `e` times this word.
 const SPREAD: u64 = 11400714819323198485;
@@ -15,8 +15,7 @@ const SPREAD: u64 = 11400714819323198485;
 /// What labels are worth in shifts.
 fn shifts() -> Shifts {
     let mut shifts = Shifts::new();
-    for i in 0..LIMIT {
-        let label = i as i64 + 1;
+    for label in 1..=LIMIT as i64 {
         let _ = shifts.add(label, label.wrapping_mul(label).wrapping_neg());
     }
     shifts
@@ -25,8 +24,7 @@ fn shifts() -> Shifts {
 /// What labels are worth in words.
 fn words() -> Words {
     let mut words = Words::new();
-    for i in 0..LIMIT {
-        let label = i as u64 + 1;
+    for label in 1..=LIMIT as u64 {
         let _ = words.add(label.wrapping_mul(SPREAD));
     }
     words
@@ -59,28 +57,6 @@ fn advance_by<P: Matroid, R: TieRule, M: Measure>(walk: &mut Walk<P, R, M>, step
     }
 }
 
-/// What is left of a walk.
-#[derive(Drop)]
-struct Ended<P, V> {
-    /// The matroid, as it was.
-    matroid: P,
-    /// The walk's five fields at its end.
-    view: View<V>,
-}
-
-/// Closes a walk.
-fn closed<P: Matroid, R: TieRule + Drop, M: Measure + Drop>(
-    walk: Walk<P, R, M>,
-) -> Ended<P, M::Value> {
-    let Parts {
-        matroid,
-        rule: _,
-        measure: _,
-        view,
-    } = walk.close();
-    Ended { matroid, view }
-}
-
 /// Writes all that is found of a matroid. The rule is in the same state at the start of each walk.
 pub fn write_walks<W: Write, P: Matroid + Drop, R: TieRule + Copy + Drop>(
     out: &mut W,
@@ -90,21 +66,22 @@ pub fn write_walks<W: Write, P: Matroid + Drop, R: TieRule + Copy + Drop>(
 ) -> io::Result<()> {
     let mut walk = Walk::begin(matroid, rule, shifts(), course.offered, course.opened);
     let written = write_sets(out, &mut walk, course.steps);
-    let Ended { matroid, view } = closed(walk);
+    let Parts { matroid, view, .. } = walk.close();
     written?;
     writeln!(out, "rank {}", rank(&matroid, u64::MAX))?;
     let mut walk = Walk::begin(matroid, rule, words(), course.offered, course.opened);
     advance_by(&mut walk, course.steps);
-    let Ended {
+    let Parts {
         matroid,
-        view: lamps,
-    } = closed(walk);
-    let Shift { across, along } = view.total;
-    let lamps = lamps.total.bits;
+        view: lit,
+        ..
+    } = walk.close();
+    let Shift { across, along, .. } = view.total;
+    let lamps = lit.total.bits;
     writeln!(out, "total {} {across} {along} {lamps}", view.count)?;
     let n = matroid.size();
     let mut walk = Walk::begin(matroid, rule, shifts(), course.offered, course.opened);
-    let file = file_of(n, &mut walk, course.steps, lamps);
-    let _ = closed(walk);
-    write_file(out, file)
+    let written = write_file(out, n, &mut walk, course.steps, lamps);
+    let _ = walk.close();
+    written
 }

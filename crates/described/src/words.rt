@@ -7,7 +7,7 @@ use std::alloc::AllocFailed;
 const MOST_DIGITS: usize = 20;
 
 /// Why a text is not read.
-#[derive(Clone, Copy)]
+#[derive(Clone, Copy, Debug, PartialEq, Eq)]
 pub enum Unread {
     WrongForm,
     NoMemory,
@@ -31,19 +31,13 @@ pub struct Reader<'a> {
 fn word_length(text: &[u8]) -> usize
     ensures { result ≤ length text.now }
 {
-    for i in 0..text.len() {
-        if text[i] == b' ' || text[i] == b'\n' {
-            return i;
-        }
-    }
-    text.len()
+    text.iter()
+        .position(|b| *b == b' ' || *b == b'\n')
+        .unwrap_or(text.len())
 }
 
 fn digit(b: u8) -> Option<u64> {
-    match b {
-        b'0'..=b'9' => Some(u64::from(b - b'0')),
-        _ => None,
-    }
+    char::from(b).to_digit(10).map(u64::from)
 }
 
 /// The number that a word writes.
@@ -85,18 +79,12 @@ impl<'a> Reader<'a> {
 
     /// The next word as a number.
     pub fn number(&mut self) -> Result<u64, Unread> {
-        match number_in(self.word()?) {
-            Some(number) => Ok(number),
-            None => Err(Unread::WrongForm),
-        }
+        number_in(self.word()?).ok_or(Unread::WrongForm)
     }
 
     /// The next word as a number of at most 255.
     pub fn small(&mut self) -> Result<u8, Unread> {
-        match u8::try_from(self.number()?) {
-            Ok(number) => Ok(number),
-            Err(_) => Err(Unread::WrongForm),
-        }
+        u8::try_from(self.number()?).map_err(|_| Unread::WrongForm)
     }
 
     /// No word is left.
