@@ -1,34 +1,30 @@
 //! The reading of a text, row by row.
-ghost use Rattle.std.specs.Prelude.{◌≡◌, ◌+◌, ◌≤◌, length, drop};
+ghost use Rattle.std.specs.Prelude.{◌≡◌};
 ghost use Rattle.survey_laws.specs.Check.{lines, read_rows as rows_read, check};
 ghost use Rattle.survey_laws.specs.Laws.{AcceptsExactly, FrontDecides, RefusesFirst, Short};
 ghost use Rattle.survey.specs.View.{rows_of, outcome};
 
-use crate::fields::until;
+use crate::fields::cut;
 use crate::judging::{head, next};
 use crate::table::Survey;
 use crate::values::Refusal;
 
 const LINE_FEED: u8 = b'\n';
 
-// The rows of the text from place `start` on, after the rows of the survey.
-fn read_rows(text: &[u8], start: usize, kept: Survey) -> Result<Survey, Refusal>
-    requires { start ≤ length text.now + 1 }
-    ensures { outcome result ≡ rows_read kept.points (rows_of kept) (lines (drop start text.now)) }
+// The rows of the text, after the rows of the survey.
+fn read_rows(text: &[u8], kept: Survey) -> Result<Survey, Refusal>
+    ensures { outcome result ≡ rows_read kept.points (rows_of kept) (lines text.now) }
 {
     let mut survey = kept;
-    let mut at = start;
-    while at < text.len() {
-        let rest = &text[at..];
-        let size = until(rest, LINE_FEED);
-        match next(&survey, &rest[0..size]) {
-            Ok(row) => survey.push(row),
-            Err(fault) => return Err(Refusal {
-                fault,
-                row: survey.len() as u32 + 2,
-            }),
-        }
-        at += size + 1;
+    let mut left = text;
+    while !left.is_empty() {
+        let (line, rest) = cut(left, LINE_FEED);
+        let row = next(&survey, line).map_err(|fault| Refusal {
+            fault,
+            row: survey.len() as u32 + 2,
+        })?;
+        survey.push(row);
+        left = rest;
     }
     Ok(survey)
 }
@@ -42,9 +38,7 @@ pub fn read(text: &[u8]) -> Result<Survey, Refusal>
     ensures short { Short }
     ensures front { FrontDecides }
 {
-    let first = until(text, LINE_FEED);
-    match head(&text[0..first]) {
-        Ok(points) => read_rows(text, first + 1, Survey::new(points)),
-        Err(fault) => Err(Refusal { fault, row: 1 }),
-    }
+    let (first, rest) = cut(text, LINE_FEED);
+    let points = head(first).map_err(|fault| Refusal { fault, row: 1 })?;
+    read_rows(rest, Survey::new(points))
 }
