@@ -20,10 +20,9 @@ where
     let mut roll = Roll::new(room);
     let (appended, stop) = walk.list(&mut roll);
     write!(out, "{appended} {}:", Shown(stop))?;
-    for i in 0..roll.len() {
-        if let Some(entry) = roll.get(i) {
-            write!(out, " {}", Shown(entry))?;
-        }
+    let many = roll.len();
+    for entry in &room[..many] {
+        write!(out, " {}", Shown(*entry))?;
     }
     writeln!(out)
 }
