@@ -81,12 +81,16 @@ pub fn begun(rig: Rig) -> anyhow::Result<SurveyWalk> {
     begun_on(graph_of(rig.points, rig.edges)?, rig.offered, rig.opened)
 }
 
-/// Ends a walk, and lets go of all that it held.
-pub fn ended(walk: SurveyWalk) {
+/// Does the work on a walk, then ends the walk, and lets go of all that it held.
+pub(crate) fn during<T, F: FnOnce(&mut SurveyWalk) -> T>(mut walk: SurveyWalk, work: F) -> T
+    requires { F.IsAlwaysCallable work }
+{
+    let told = work(&mut walk);
     let Parts {
         matroid: _,
         rule: _,
         measure: _,
         view: _,
     } = walk.close();
+    told
 }

@@ -1,5 +1,5 @@
 //! Walks that the texts of surveys open.
-use crate::rig::{Pair, ended};
+use crate::rig::{Pair, during};
 use crate::walking::write_sets;
 use anyhow::Context;
 use labels::LIMIT;
@@ -65,10 +65,8 @@ fn write_opening<W: Write>(out: &mut W, name: &str, text: &[u8]) -> io::Result<(
 fn write_walk<W: Write>(out: &mut W, case: Case) -> anyhow::Result<()> {
     let (name, text) = case;
     write!(out, "survey, {name}: ")?;
-    let mut walk = walk_of(text).ok().context("the survey is refused")?;
-    let written = write_sets(out, &mut walk);
-    ended(walk);
-    Ok(written?)
+    let begun = walk_of(text).ok().context("the survey is refused")?;
+    Ok(during(begun, |walk| write_sets(out, walk))?)
 }
 
 /// The pair of points after `pair`, where those of lower points come first: 1 and 2, 1 and 3, 2 and 3, 1 and 4 and so on.
