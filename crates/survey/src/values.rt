@@ -3,7 +3,7 @@ ghost use Rattle.std.specs.Prelude.{◌≡◌};
 ghost use Rattle.survey_laws.specs.Check.{wrong_number};
 ghost use Rattle.survey.specs.View.{wrong_of};
 
-/// Two points, and the shift from one to the other in arc seconds.
+/// Two points, and the shift from one to the other in arc seconds. The default fills the free places of a survey.
 #[derive(Clone, Copy, Debug, Default, PartialEq, Eq)]
 pub struct Row {
     /// One of the points, from 1.
