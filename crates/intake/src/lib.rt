@@ -12,7 +12,7 @@ pub fn take_in(rt: &HostRuntime, buffer: &mut [u8]) -> io::Result<usize>
 {
     let mut input = rt.stdin();
     let mut n: usize = 0;
-    for _ in 0..buffer.len() {
+    while n < buffer.len() {
         let came = input.read(&mut buffer[n..])?;
         if came == 0 {
             break;

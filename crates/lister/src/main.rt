@@ -1,13 +1,12 @@
 //! Reads a survey from standard input and prints every chain of it once, with the count and the total at the end.
 #![tactic(auto)]
 
-ghost use Rattle.std.specs.Prelude.{◌≤◌, length, IfOk};
-
 use anyhow::anyhow;
+use intake::take_in;
 use lines::{Line, RefusedLine, TotalLine};
 use roll::Roll;
 use std::io;
-use std::io::{BufWriter, Read, Write};
+use std::io::{BufWriter, Write};
 use survey_walk::{SurveyWalk, walk_of};
 use walk::{Parts, Stop};
 
@@ -17,32 +16,14 @@ const MOST_INPUT: usize = 4096;
 /// How many chains are listed at a time.
 const BATCH: usize = 1024;
 
-/// Fills the buffer from standard input, and answers how many bytes came.
-fn take_in(rt: &HostRuntime, buffer: &mut [u8]) -> io::Result<usize>
-    ensures { IfOk result (λ n. n ≤ length buffer.new) }
-{
-    let mut input = rt.stdin();
-    let mut n: usize = 0;
-    for _ in 0..buffer.len() {
-        let came = input.read(&mut buffer[n..])?;
-        if came == 0 {
-            break;
-        }
-        n += came;
-    }
-    Ok(n)
-}
-
-/// Writes the chains of a roll, numbered from `first` on.
-fn write_roll<W: Write>(out: &mut W, roll: &Roll<u64>, first: u64) -> io::Result<()> {
-    for i in 0..roll.len() {
-        if let Some(set) = roll.get(i) {
-            let line = Line {
-                count: first.saturating_add(i as u64),
-                set,
-            };
-            writeln!(out, "{line}")?;
-        }
+/// Writes chains, numbered from `first` on.
+fn write_chains<W: Write>(out: &mut W, chains: &[u64], first: u64) -> io::Result<()> {
+    for (i, set) in chains.iter().enumerate() {
+        let line = Line {
+            count: first.saturating_add(i as u64),
+            set: *set,
+        };
+        writeln!(out, "{line}")?;
     }
     Ok(())
 }
@@ -60,10 +41,10 @@ fn write_all<W: Write>(out: &mut W, walk: &mut SurveyWalk) -> io::Result<()> {
         let first = walk.look().count.saturating_add(1);
         let mut roll = Roll::new(&mut sets);
         let (_, stop) = walk.list(&mut roll);
-        write_roll(out, &roll, first)?;
-        match stop {
-            Stop::Full => {}
-            Stop::Finished => break,
+        let many = roll.len();
+        write_chains(out, &sets[..many], first)?;
+        if stop == Stop::Finished {
+            break;
         }
     }
     let end = walk.look();
@@ -82,8 +63,7 @@ fn run(rt: &HostRuntime) -> anyhow::Result<()> {
     // A walk cannot be let go, and want of memory is met before there is one.
     let mut out = BufWriter::new(rt.alloc(), rt.stdout())?;
     match walk_of(&buffer[0..n]) {
-        Ok(begun) => {
-            let mut walk = begun;
+        Ok(mut walk) => {
             let written = write_all(&mut out, &mut walk);
             let Parts {
                 matroid: _,

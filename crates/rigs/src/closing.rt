@@ -24,8 +24,7 @@ pub fn write_closed<W: Write>(out: &mut W) -> anyhow::Result<()> {
         matroid.size(),
         measure.len()
     )?;
-    for i in 0..matroid.size() {
-        let label = i + 1;
+    for label in 1..=matroid.size() {
         if let Some((a, b)) = matroid.ends(label) {
             writeln!(
                 out,

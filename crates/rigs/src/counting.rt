@@ -3,7 +3,7 @@ ghost use Rattle.labels.specs.Families.{numbers_below};
 ghost use Rattle.matroid_laws.specs.Matroids.{is_base};
 ghost use Rattle.std.specs.Prelude.{◌≡◌, length, filter};
 
-use crate::rig::{TRIANGLE, begun_on, complete, ended, graph_of};
+use crate::rig::{TRIANGLE, begun_on, complete, during, graph_of};
 use crate::shown::Shown;
 use crate::walking::rest_of;
 use label_words::full_to;
@@ -43,10 +43,8 @@ fn bases_below<M: Matroid>(matroid: &M, words: u64) -> u64
 
 /// Writes how many bases a walk on the complete graph of so many points hands out.
 fn write_count<W: Write>(out: &mut W, points: u8) -> anyhow::Result<()> {
-    let mut walk = begun_on(complete(points)?, 0, u64::MAX)?;
-    let more = rest_of(&mut walk);
-    let count = walk.look().count;
-    ended(walk);
+    let begun = begun_on(complete(points)?, 0, u64::MAX)?;
+    let (more, count) = during(begun, |walk| (rest_of(walk), walk.look().count));
     writeln!(
         out,
         "complete graph of {points} points: {more} advances, count {count}"

@@ -1,5 +1,5 @@
 //! Lists on rolls, of sets and of exchanges.
-use crate::rig::{Rig, TRIANGLE, begun, ended};
+use crate::rig::{Rig, TRIANGLE, begun, during};
 use crate::shown::Shown;
 use roll::Roll;
 use std::io::Write;
@@ -20,10 +20,9 @@ where
     let mut roll = Roll::new(room);
     let (appended, stop) = walk.list(&mut roll);
     write!(out, "{appended} {}:", Shown(stop))?;
-    for i in 0..roll.len() {
-        if let Some(entry) = roll.get(i) {
-            write!(out, " {}", Shown(entry))?;
-        }
+    let many = roll.len();
+    for entry in &room[..many] {
+        write!(out, " {}", Shown(*entry))?;
     }
     writeln!(out)
 }
@@ -51,18 +50,12 @@ fn write_exchange_list<W: Write>(out: &mut W, walk: &mut SurveyWalk) -> io::Resu
 
 /// Writes the list of a rig's exchanges.
 fn write_exchanges<W: Write>(out: &mut W, rig: Rig) -> anyhow::Result<()> {
-    let mut walk = begun(rig)?;
-    let written = write_exchange_list(out, &mut walk);
-    ended(walk);
-    Ok(written?)
+    Ok(during(begun(rig)?, |walk| write_exchange_list(out, walk))?)
 }
 
 /// Writes the triangle's lists.
 pub fn write_lists<W: Write>(out: &mut W) -> anyhow::Result<()> {
-    let mut walk = begun(TRIANGLE)?;
-    let written = write_set_lists(out, &mut walk);
-    ended(walk);
-    written?;
+    during(begun(TRIANGLE)?, |walk| write_set_lists(out, walk))?;
     write_exchanges(out, TRIANGLE)?;
     write_exchanges(
         out,

@@ -1,5 +1,5 @@
 //! The graphs that are walked on.
-use anyhow::anyhow;
+use anyhow::Context;
 use graphic::Graphic;
 use measure::Shifts;
 use survey_walk::SurveyWalk;
@@ -38,14 +38,11 @@ const SHIFTS: [(i64, i64); 3] = [(10, 0), (0, 5), (-2, 1)];
 
 /// The graph with these edges.
 pub fn graph_of(points: u8, edges: &[Pair]) -> anyhow::Result<Graphic> {
-    let Ok(empty) = Graphic::new(points) else {
-        return Err(anyhow!("the number of points is refused"));
-    };
-    let mut graphic = empty;
+    let mut graphic = Graphic::new(points)
+        .ok()
+        .context("the number of points is refused")?;
     for (a, b) in edges {
-        let Ok(()) = graphic.add(*a, *b) else {
-            return Err(anyhow!("an edge is refused"));
-        };
+        graphic.add(*a, *b).ok().context("an edge is refused")?;
     }
     Ok(graphic)
 }
@@ -53,11 +50,9 @@ pub fn graph_of(points: u8, edges: &[Pair]) -> anyhow::Result<Graphic> {
 /// The complete graph: each two points are joined, those of lower points first.
 pub fn complete(points: u8) -> anyhow::Result<Graphic> {
     let mut graphic = graph_of(points, &[])?;
-    for last in 0..points {
-        for first in 0..last {
-            let Ok(()) = graphic.add(first + 1, last + 1) else {
-                return Err(anyhow!("a pair is refused"));
-            };
+    for last in 1..=points {
+        for first in 1..last {
+            graphic.add(first, last).ok().context("a pair is refused")?;
         }
     }
     Ok(graphic)
@@ -67,9 +62,10 @@ pub fn complete(points: u8) -> anyhow::Result<Graphic> {
 fn shifts() -> anyhow::Result<Shifts> {
     let mut shifts = Shifts::new();
     for (across, along) in &SHIFTS {
-        let Ok(()) = shifts.add(*across, *along) else {
-            return Err(anyhow!("a shift is refused"));
-        };
+        shifts
+            .add(*across, *along)
+            .ok()
+            .context("a shift is refused")?;
     }
     Ok(shifts)
 }
@@ -85,12 +81,16 @@ pub fn begun(rig: Rig) -> anyhow::Result<SurveyWalk> {
     begun_on(graph_of(rig.points, rig.edges)?, rig.offered, rig.opened)
 }
 
-/// Ends a walk, and lets go of all that it held.
-pub fn ended(walk: SurveyWalk) {
+/// Does the work on a walk, then ends the walk, and lets go of all that it held.
+pub(crate) fn during<T, F: FnOnce(&mut SurveyWalk) -> T>(mut walk: SurveyWalk, work: F) -> T
+    requires { F.IsAlwaysCallable work }
+{
+    let told = work(&mut walk);
     let Parts {
         matroid: _,
         rule: _,
         measure: _,
         view: _,
     } = walk.close();
+    told
 }

@@ -17,8 +17,7 @@ impl fmt::Display for Shown<u64> {
         if self.0 == 0 {
             return write!(f, "none");
         }
-        for i in 0..HIGHEST {
-            let label = i + 1;
+        for label in 1..=HIGHEST {
             if contains(self.0, label) {
                 write!(f, "{label}")?;
             }

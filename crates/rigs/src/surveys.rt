@@ -1,7 +1,7 @@
 //! Walks that the texts of surveys open.
-use crate::rig::{Pair, ended};
+use crate::rig::{Pair, during};
 use crate::walking::write_sets;
-use anyhow::anyhow;
+use anyhow::Context;
 use labels::LIMIT;
 use matroid::{Matroid, rank};
 use std::alloc::Global;
@@ -10,50 +10,25 @@ use std::{fmt, io};
 use survey_walk::walk_of;
 use walk::Parts;
 
-/// The text of a survey, and what it is called.
-#[derive(Clone, Copy)]
-struct Case {
-    name: &'static str,
-    text: &'static [u8],
-}
+/// What a survey is called, and its text.
+type Case = (&'static str, &'static [u8]);
 
-const TRIANGLE: Case = Case {
-    name: "triangle",
-    text: b"3\n1,2,10,0\n2,3,0,5\n1,3,-2,1\n",
-};
+const TRIANGLE: Case = ("triangle", b"3\n1,2,10,0\n2,3,0,5\n1,3,-2,1\n");
 
-const UNENDED: Case = Case {
-    name: "triangle, no last line feed",
-    text: b"3\n1,2,10,0\n2,3,0,5\n1,3,-2,1",
-};
+const UNENDED: Case = (
+    "triangle, no last line feed",
+    b"3\n1,2,10,0\n2,3,0,5\n1,3,-2,1",
+);
 
 const CASES: [Case; 8] = [
     TRIANGLE,
     UNENDED,
-    Case {
-        name: "32 points",
-        text: b"32\n",
-    },
-    Case {
-        name: "33 points",
-        text: b"33\n",
-    },
-    Case {
-        name: "shift -0",
-        text: b"3\n1,2,-0,0\n",
-    },
-    Case {
-        name: "empty text",
-        text: b"",
-    },
-    Case {
-        name: "same point",
-        text: b"3\n1,2,0,0\n2,2,0,0\n",
-    },
-    Case {
-        name: "pair turned round",
-        text: b"3\n1,2,0,0\n2,3,0,0\n2,1,0,0\n",
-    },
+    ("32 points", b"32\n"),
+    ("33 points", b"33\n"),
+    ("shift -0", b"3\n1,2,-0,0\n"),
+    ("empty text", b""),
+    ("same point", b"3\n1,2,0,0\n2,2,0,0\n"),
+    ("pair turned round", b"3\n1,2,0,0\n2,3,0,0\n2,1,0,0\n"),
 ];
 
 /// How many points the long texts have.
@@ -88,14 +63,10 @@ fn write_opening<W: Write>(out: &mut W, name: &str, text: &[u8]) -> io::Result<(
 
 /// Writes the whole walk that a text opens.
 fn write_walk<W: Write>(out: &mut W, case: Case) -> anyhow::Result<()> {
-    write!(out, "survey, {}: ", case.name)?;
-    let Ok(begun) = walk_of(case.text) else {
-        return Err(anyhow!("the survey is refused"));
-    };
-    let mut walk = begun;
-    let written = write_sets(out, &mut walk);
-    ended(walk);
-    Ok(written?)
+    let (name, text) = case;
+    write!(out, "survey, {name}: ")?;
+    let begun = walk_of(text).ok().context("the survey is refused")?;
+    Ok(during(begun, |walk| write_sets(out, walk))?)
 }
 
 /// The pair of points after `pair`, where those of lower points come first: 1 and 2, 1 and 3, 2 and 3, 1 and 4 and so on.
@@ -123,8 +94,8 @@ fn first_rows(heap: Global, size: usize) -> Result<String, fmt::Error> {
 
 /// Writes the lines of all texts.
 pub fn write_surveys<W: Write>(heap: Global, out: &mut W) -> anyhow::Result<()> {
-    for case in &CASES {
-        write_opening(out, case.name, case.text)?;
+    for (name, text) in &CASES {
+        write_opening(out, name, text)?;
     }
     write_opening(
         out,

@@ -1,7 +1,7 @@
 //! Whole walks, set by set.
 ghost use Rattle.std.specs.Prelude.{◌≡◌, ◌+◌};
 
-use crate::rig::{Rig, TRIANGLE, begun, ended};
+use crate::rig::{Rig, TRIANGLE, begun, during};
 use crate::shown::Shown;
 use std::io;
 use std::io::Write;
@@ -89,10 +89,7 @@ fn write_walk<W: Write>(out: &mut W, rig: Rig) -> anyhow::Result<()> {
     let offered = Shown(rig.offered);
     let opened = Shown(rig.opened);
     write!(out, "{}, offered {offered}, active {opened}: ", rig.name)?;
-    let mut walk = begun(rig)?;
-    let written = write_sets(out, &mut walk);
-    ended(walk);
-    Ok(written?)
+    Ok(during(begun(rig)?, |walk| write_sets(out, walk))?)
 }
 
 /// Writes the lines of all rigs.
@@ -105,12 +102,10 @@ pub fn write_walks<W: Write>(out: &mut W) -> anyhow::Result<()> {
 
 /// Writes all that a finished walk holds, before and after it is advanced once more.
 pub fn write_finished<W: Write>(out: &mut W) -> anyhow::Result<()> {
-    let mut walk = begun(TRIANGLE)?;
-    rest_of(&mut walk);
-    let before = walk.look();
-    let again = walk.advance();
-    let after = walk.look();
-    ended(walk);
+    let (before, again, after) = during(begun(TRIANGLE)?, |walk| {
+        rest_of(walk);
+        (walk.look(), walk.advance(), walk.look())
+    });
     writeln!(out, "finished: {}", Shown(before))?;
     match again {
         Some(_) => writeln!(out, "advanced again: moved")?,

@@ -1,60 +1,50 @@
--- The steps of the loops over bytes.
-use Rattle.std.proofs.Common.{◌≡◌, ℕ, ◌+◌, ◌-◌, ◌*◌, ◌^◌, ◌<◌, ◌≤◌, true, false, not, eqb, List, length, get_or, drop, ℤ, Some, None, Option, ap, ◌∙◌, zero-lt-suc, pow-suc, add-one, arith}
+-- Numbers, cuts and pairs, a step at a time.
+use Rattle.std.proofs.Common.{◌≡◌, ℕ, ◌^◌, ◌<◌, ◌≤◌, Bool, true, false, cond, ◌&&◌, ◌||◌, eqb, ltb, List, [], ◌∷◌, map, length, get_or, take, ℤ, Some, None, Option, position, refl, ap, ◌∙◌, zero-lt-suc, ltb-false, arith}
+use Rattle.std.specs.List.{list_any}
 use native.Mathlib.Nat.{pow-le-pow_right}
-use Rattle.std.proofs.lemmas.List.{at_drop_more, at_drop_all}
-use Rattle.std.proofs.lemmas.List.Sums.{prefix_len-drop_yes, prefix_len-drop_no, prefix_len-drop_all}
-use Rattle.std.proofs.lemmas.Bool.{cond-true, cond-false, eq-eqb, ne_eqb}
-use Rattle.std.proofs.lemmas.Bool.Decides.{nat_tests}
-use Rattle.survey_laws.specs.Sheets.{comma}
-use Rattle.survey_laws.specs.Check.{is_digit, sized, read_on, number_in, plain, negative, shift_in, until, before, after, row_from, row_in}
+use lib.Pointwise.{pointwise}
+use Rattle.survey_laws.specs.Sheets.{SurveyRow, comma}
+use Rattle.survey_laws.specs.Check.{number_in, shift_in, until, before, after, row_from, row_in, same_pair, met}
 
-pub digit_range : (c : ℕ) → is_digit c ≡ true → (48 ≤ c) × (c < 58)
-digit_range c e = (grind (arith, nat_tests), grind (arith, nat_tests))
-
--- a number of n digits, and of one more
+-- a number of n digits has no more than m
 pub under : (v n m : ℕ) → v < 10 ^ n → n ≤ m → v < 10 ^ m
 under v n m h l = let p : 10 ^ n ≤ 10 ^ m = pow-le-pow_right (zero-lt-suc 9) l in omega arith
 
-pub under_more : (v n d : ℕ) → v < 10 ^ n → d < 10 → v * 10 + d < 10 ^ (n + 1)
-under_more v n d h l = let p : 10 ^ (n + 1) ≡ 10 ^ n * 10 = ap (λ k. 10 ^ k) (add-one n) ∙ pow-suc 10 n in omega arith
+-- ---- the place of a mark
 
--- read-on, a byte further
-pub read_on_yes : (n : ℕ) (s : List ℕ) (i : ℕ) → i < length s → is_digit (get_or s i 0) ≡ true → read_on n (drop i s) ≡ read_on (n * 10 + (get_or s i 0 - 48)) (drop (i + 1) s)
-read_on_yes n s i h e = at_drop_more (read_on n) s i 0 h ∙ cond-true (is_digit (get_or s i 0)) _ _ e
+found : (b : Bool) (n k : ℕ) → ◌≡◌ {A = Option ℕ} (Some n) (cond b (Some k) None) → n ≡ k
+found true n k p = cc
+found false n k p = absurd (let z : ◌≡◌ {A = ℕ} 0 1 = cc in omega arith)
 
-pub read_on_no : (n : ℕ) (s : List ℕ) (i : ℕ) → i < length s → is_digit (get_or s i 0) ≡ false → read_on n (drop i s) ≡ None
-read_on_no n s i h e = at_drop_more (read_on n) s i 0 h ∙ cond-false (is_digit (get_or s i 0)) _ _ e
+lost : (b : Bool) (k : ℕ) → ◌≡◌ {A = Option ℕ} None (cond b (Some k) None) → b ≡ false
+lost true k p = absurd (let z : ◌≡◌ {A = ℕ} 0 1 = cc in omega arith)
+lost false k p = refl
 
-pub read_on_end : (n : ℕ) (s : List ℕ) (i : ℕ) → length s ≤ i → read_on n (drop i s) ≡ Some n
-read_on_end n s i h = at_drop_all (read_on n) s i h
+pub until_found : (b : ℕ) (s : List ℕ) (n : ℕ) → ◌≡◌ {A = Option ℕ} (Some n) (position (λ c. eqb c b) s) → n ≡ until b s
+until_found b s n p = found (ltb (until b s) (length s)) n (until b s) p
 
--- until, a byte further
-pub until_more : (b : ℕ) (s : List ℕ) (i : ℕ) → i < length s → (get_or s i 0 ≡ b → ⊥) → until b (drop i s) ≡ 1 + until b (drop (i + 1) s)
-until_more b s i h n = prefix_len-drop_yes (λ c. not (eqb c b)) s i 0 h (ap not (ne_eqb (get_or s i 0) b n))
+pub until_lost : (b : ℕ) (s : List ℕ) → ◌≡◌ {A = Option ℕ} None (position (λ c. eqb c b) s) → length s ≤ until b s
+until_lost b s p = ltb-false (until b s) (length s) (lost (ltb (until b s) (length s)) (until b s) p)
 
-pub until_here : (b : ℕ) (s : List ℕ) (i : ℕ) → i < length s → get_or s i 0 ≡ b → until b (drop i s) ≡ 0
-until_here b s i h e = prefix_len-drop_no (λ c. not (eqb c b)) s i 0 h (ap not (eq-eqb (get_or s i 0) b e))
+-- ---- the sign of a shift
 
-pub until_end : (b : ℕ) (s : List ℕ) (i : ℕ) → length s ≤ i → until b (drop i s) ≡ 0
-until_end b s i h = prefix_len-drop_all (λ c. not (eqb c b)) s i h
+pub minus_first : (s : List ℕ) → pointwise eqb (take 1 s) (45 ∷ []) ≡ eqb (get_or s 0 0) 45
+minus_first [] = refl
+minus_first (c ∷ cs) = go (eqb c 45)
+  where
+    go : (b : Bool) → (b && true) ≡ b
+    go true = refl
+    go false = refl
 
--- ---- the numbers, by their tests
+-- ---- pairs
 
-pub number_sized : (s : List ℕ) → sized s ≡ true → number_in s ≡ read_on 0 s
-unfolding number_in
-number_sized s e = cond-true (sized s) _ _ e
-
-pub number_unsized : (s : List ℕ) → sized s ≡ false → number_in s ≡ None
-unfolding number_in
-number_unsized s e = cond-false (sized s) _ _ e
-
-pub shift_minus : (s : List ℕ) → eqb (get_or s 0 0) 45 ≡ true → shift_in s ≡ negative (number_in (drop 1 s))
-unfolding shift_in
-shift_minus s e = cond-true (eqb (get_or s 0 0) 45) _ _ e
-
-pub shift_plain : (s : List ℕ) → eqb (get_or s 0 0) 45 ≡ false → shift_in s ≡ plain (number_in s)
-unfolding shift_in
-shift_plain s e = cond-false (eqb (get_or s 0 0) 45) _ _ e
+pub any_met : {A : Type 0} (f : A → SurveyRow) (xs : List A) (r : SurveyRow) → list_any (λ q. same_pair (f q) r) xs ≡ met (map f xs) r
+any_met f [] r = refl
+any_met f (q ∷ qs) r = go (same_pair (f q) r) ∙ ap (λ b. cond (same_pair (f q) r) true b) (any_met f qs r)
+  where
+    go : (b : Bool) → (b || list_any (λ x. same_pair (f x) r) qs) ≡ cond b true (list_any (λ x. same_pair (f x) r) qs)
+    go true = refl
+    go false = refl
 
 -- ---- a row, by its fields
 

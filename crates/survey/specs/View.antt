@@ -1,5 +1,5 @@
 -- The code's values as the records and outcomes of the theory.
-use Rattle.std.specs.Prelude.{ℕ, List, map, take, Ok, Err, Result}
+use Rattle.std.specs.Prelude.{ℕ, List, map, Ok, Err, Result}
 use Rattle.survey_laws.specs.Sheets.{SurveyRow, Sheet}
 use Rattle.survey_laws.specs.Check.{Wrong, too_many_rows, wrong_form, out_of_range, same_point, repeated_pair, Outcome, accepted, refused}
 use Rattle.survey.specs.declared.values.Row.{Row}
@@ -17,9 +17,9 @@ row_of r = record { a = r.a; b = r.b; across = r.across; along = r.along }
 abbrev pub fields_of : Fields → SurveyRow
 fields_of f = record { a = f.a; b = f.b; across = f.across; along = f.along }
 
--- the rows that are in use
+-- the rows that are kept
 abbrev pub rows_of : Survey → List SurveyRow
-rows_of s = map row_of (take s.count s.rows)
+rows_of s = map row_of s.rows.items
 
 -- a survey of the code
 abbrev pub sheet_of : Survey → Sheet

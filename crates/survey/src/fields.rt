@@ -1,8 +1,7 @@
 //! The pieces of a text: lines, and the four numbers of a line.
-ghost use Rattle.std.specs.Prelude.{◌≡◌, ◌≤◌, length};
+ghost use Rattle.std.specs.Prelude.{◌≡◌};
 ghost use Rattle.std.specs.Option.{option_map};
-ghost use Rattle.survey_laws.specs.Sheets.{comma};
-ghost use Rattle.survey_laws.specs.Check.{until as bytes_until, before, after, row_from, row_in};
+ghost use Rattle.survey_laws.specs.Check.{before, after, row_from, row_in};
 ghost use Rattle.survey.specs.View.{fields_of};
 
 use crate::numerals::{number, shift};
@@ -10,7 +9,7 @@ use crate::numerals::{number, shift};
 const COMMA: u8 = b',';
 
 /// The numbers of a row that has the form, before it is known whether they are in range.
-#[derive(Clone, Copy)]
+#[derive(Clone, Copy, Debug, PartialEq, Eq)]
 pub struct Fields {
     pub a: u32,
     pub b: u32,
@@ -18,29 +17,15 @@ pub struct Fields {
     pub along: i64,
 }
 
-/// How many bytes stand before the first `b`, or all of them if there is none.
-pub fn until(s: &[u8], b: u8) -> usize
-    ensures is { result ≡ bytes_until b s.now }
-    ensures within { result ≤ length s.now }
+/// What stands before the first `mark`, and what stands after it; all and nothing if there is none.
+pub fn cut(s: &[u8], mark: u8) -> (&[u8], &[u8])
+    ensures front { result.0.now ≡ before mark s.now }
+    ensures rest { result.1.now ≡ after mark s.now }
 {
-    for i in 0..s.len() {
-        if s[i] == b {
-            return i;
-        }
+    match s.iter().position(|b| *b == mark) {
+        Some(n) => (&s[..n], &s[n + 1..]),
+        None => (s, &[]),
     }
-    s.len()
-}
-
-// What stands before the first comma, and what stands after it.
-fn cut<'a>(s: &'a [u8]) -> (&'a [u8], &'a [u8])
-    ensures front { result.0.now ≡ before comma s.now }
-    ensures rest { result.1.now ≡ after comma s.now }
-{
-    let n = until(s, COMMA);
-    if n == s.len() {
-        return (s, &s[n..]);
-    }
-    (&s[0..n], &s[n + 1..])
 }
 
 // The fields of four numbers, if all are there.
@@ -64,8 +49,8 @@ fn assembled(
 pub fn split_row(line: &[u8]) -> Option<Fields>
     ensures { option_map fields_of result ≡ row_in line.now }
 {
-    let (first, rest) = cut(line);
-    let (second, rest) = cut(rest);
-    let (third, fourth) = cut(rest);
+    let (first, rest) = cut(line, COMMA);
+    let (second, rest) = cut(rest, COMMA);
+    let (third, fourth) = cut(rest, COMMA);
     assembled(number(first), number(second), shift(third), shift(fourth))
 }

@@ -1,5 +1,6 @@
 //! The checks of one line, in their order.
-ghost use Rattle.std.specs.Prelude.{◌≡◌, ◌^◌, ◌<◌, true, length, is_ok};
+ghost use Rattle.std.specs.Prelude.{◌≡◌, ◌<◌, true, length, is_ok, Some, None, cond};
+ghost use Rattle.std.specs.Option.{option_map};
 ghost use Rattle.labels.specs.Sets.{limit};
 ghost use Rattle.survey_laws.specs.Check.{is_point, reaches as reach, in_range, judged, next_row, first_line};
 ghost use Rattle.survey.specs.View.{row_of, fields_of, rows_of, row_outcome, points_outcome};
@@ -12,43 +13,36 @@ use entry::MOST_POINTS;
 
 const FURTHEST: i64 = 1000000;
 
-fn is_point(x: u32, most: u8) -> bool
-    ensures { result ≡ is_point most x }
+// The point that has this number, if it is one of the points 1 to `most`.
+fn point(x: u32, most: u8) -> Option<u8>
+    ensures { result ≡ cond (is_point most x) (Some x) None }
 {
-    x != 0 && x <= most as u32
+    u8::try_from(x).ok().filter(|p| (1..=most).contains(p))
 }
 
 fn reaches(z: i64) -> bool
     ensures { result ≡ reach z }
 {
-    -FURTHEST <= z && z <= FURTHEST
+    (-FURTHEST..=FURTHEST).contains(&z)
 }
 
-fn is_in_range(points: u8, f: Fields) -> bool
-    ensures { result ≡ in_range points (fields_of f) }
+// The row that has these fields, if all four are in range.
+fn row_in_range(points: u8, f: Fields) -> Option<Row>
+    ensures { option_map row_of result ≡ cond (in_range points (fields_of f)) (Some (fields_of f)) None }
 {
-    is_point(f.a, points) && is_point(f.b, points) && reaches(f.across) && reaches(f.along)
-}
-
-fn narrowed(f: Fields) -> Row
-    requires { (f.a < 2 ^ 8) × (f.b < 2 ^ 8) }
-    ensures { row_of result ≡ fields_of f }
-{
-    Row {
-        a: f.a as u8,
-        b: f.b as u8,
+    let row = Row {
+        a: point(f.a, points)?,
+        b: point(f.b, points)?,
         across: f.across,
         along: f.along,
-    }
+    };
+    (reaches(row.across) && reaches(row.along)).then_some(row)
 }
 
 fn judge(survey: &Survey, f: Fields) -> Result<Row, Fault>
     ensures { row_outcome result ≡ judged survey.now.points (rows_of survey.now) (fields_of f) }
 {
-    if !is_in_range(survey.points, f) {
-        return Err(Fault::OutOfRange);
-    }
-    let row = narrowed(f);
+    let row = row_in_range(survey.points, f).ok_or(Fault::OutOfRange)?;
     if row.a == row.b {
         return Err(Fault::SamePoint);
     }
@@ -66,22 +60,13 @@ pub fn next(survey: &Survey, line: &[u8]) -> Result<Row, Fault>
     if survey.is_full() {
         return Err(Fault::TooManyRows);
     }
-    let Some(f) = split_row(line) else {
-        return Err(Fault::WrongForm);
-    };
-    judge(survey, f)
+    judge(survey, split_row(line).ok_or(Fault::WrongForm)?)
 }
 
 /// The number of points, by the first line.
 pub fn head(line: &[u8]) -> Result<u8, Fault>
     ensures { points_outcome result ≡ first_line line.now }
 {
-    let Some(p) = number(line) else {
-        return Err(Fault::WrongForm);
-    };
-    if is_point(p, MOST_POINTS) {
-        Ok(p as u8)
-    } else {
-        Err(Fault::OutOfRange)
-    }
+    let p = number(line).ok_or(Fault::WrongForm)?;
+    point(p, MOST_POINTS).ok_or(Fault::OutOfRange)
 }

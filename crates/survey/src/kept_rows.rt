@@ -1,5 +1,5 @@
 //! The rows that a survey keeps.
-ghost use Rattle.std.specs.Prelude.{◌≡◌, ◌<◌, ◌≤◌, [], ◌∷◌, ◌++◌, length, nat_le};
+ghost use Rattle.std.specs.Prelude.{◌≡◌, ◌<◌, ◌≤◌, [], ◌∷◌, ◌++◌, length, map, nat_le};
 ghost use Rattle.std.specs.Option.{option_map};
 ghost use Rattle.std.specs.List.{slice_get};
 ghost use Rattle.labels.specs.Sets.{limit};
@@ -8,14 +8,7 @@ ghost use Rattle.survey.specs.View.{row_of, rows_of, sheet_of};
 
 use crate::table::Survey;
 use crate::values::Row;
-use labels::LIMIT;
-
-const NO_ROW: Row = Row {
-    a: 0,
-    b: 0,
-    across: 0,
-    along: 0,
-};
+use arrayvec::ArrayVec;
 
 // Whether two rows have the same pair of points, either way round.
 fn is_same_pair(one: Row, other: Row) -> bool
@@ -31,8 +24,7 @@ impl Survey {
     {
         Survey {
             points,
-            count: 0,
-            rows: [NO_ROW; LIMIT],
+            rows: ArrayVec::new(),
         }
     }
 
@@ -43,30 +35,34 @@ impl Survey {
         self.points
     }
 
-    /// How many rows there are; their labels are 1 to this number.
+    /// The rows, in the order of their labels, which are 1 to their number.
+    pub fn rows(&self) -> &[Row]
+        ensures are { map row_of result.now ≡ (sheet_of self.now).rows }
+        ensures few { length result.now ≤ limit }
+    {
+        self.rows.as_slice()
+    }
+
+    /// How many rows there are.
     pub fn len(&self) -> usize
         ensures is { result ≡ length (sheet_of self.now).rows }
         ensures few { result ≤ limit }
     {
-        self.count as usize
+        self.rows.len()
     }
 
     // Whether there is no room for a row more.
     pub(crate) fn is_full(&self) -> bool
         ensures { result ≡ nat_le limit (length (rows_of self.now)) }
     {
-        self.len() >= LIMIT
+        self.rows.is_full()
     }
 
     /// The row at place `i`, from 0; its label is `i + 1`.
     pub fn row(&self, i: usize) -> Option<Row>
         ensures { option_map row_of result ≡ slice_get (sheet_of self.now).rows i }
     {
-        if i < self.len() {
-            Some(self.rows[i])
-        } else {
-            None
-        }
+        self.rows().get(i).copied()
     }
 
     pub(crate) fn push(&mut self, row: Row)
@@ -74,20 +70,13 @@ impl Survey {
         ensures points { self.new.points ≡ self.old.points }
         ensures rows { rows_of self.new ≡ rows_of self.old ++ row_of row ∷ [] }
     {
-        let n = self.len();
-        self.rows[n] = row;
-        self.count += 1;
+        self.rows.push(row);
     }
 
     // Whether some row has the pair of points of `row`.
     pub(crate) fn has_pair(&self, row: Row) -> bool
         ensures { result ≡ met (rows_of self.now) (row_of row) }
     {
-        for i in 0..self.len() {
-            if is_same_pair(self.rows[i], row) {
-                return true;
-            }
-        }
-        false
+        self.rows().iter().any(|kept| is_same_pair(*kept, row))
     }
 }

@@ -24,32 +24,47 @@ pub use values::{Fault, Refusal, Row};
 #[cfg(test)]
 mod tests {
     use super::*;
+    use std::alloc::Global;
+    use std::fmt;
+    use std::fmt::Write;
+    use std::test::Fail;
 
     const TRIANGLE: &[u8] = b"3\n1,2,10,0\n2,3,0,5\n1,3,-2,1\n";
 
+    const SEAMS: [Row; 3] = [
+        Row {
+            a: 1,
+            b: 2,
+            across: 10,
+            along: 0,
+        },
+        Row {
+            a: 2,
+            b: 3,
+            across: 0,
+            along: 5,
+        },
+        Row {
+            a: 1,
+            b: 3,
+            across: -2,
+            along: 1,
+        },
+    ];
+
     // Whether the text is refused by this number, at this row.
     fn is_refused(text: &[u8], number: u8, row: u32) -> bool {
-        match read(text) {
-            Ok(_) => false,
-            Err(e) => e.fault.number() == number && e.row == row,
-        }
+        read(text).is_err_and(|e| e.fault.number() == number && e.row == row)
     }
 
     // Whether the text is read as the triangle.
     fn is_triangle(text: &[u8]) -> bool {
-        let Ok(s) = read(text) else {
-            return false;
-        };
-        let (Some(p), Some(q), Some(r)) = (s.row(0), s.row(1), s.row(2)) else {
-            return false;
-        };
-        s.points() == 3
-            && s.len() == 3
-            && p.across == 10
-            && q.along == 5
-            && r.across == -2
-            && r.along == 1
-            && r.b == 3
+        read(text).is_ok_and(|s| {
+            s.points() == 3
+                && s.len() == 3
+                && s.rows() == SEAMS.as_slice()
+                && s.row(2) == Some(SEAMS[2])
+        })
     }
 
     #[test]
@@ -70,29 +85,20 @@ mod tests {
         assert!(rt; is_refused(b"3\n1,2,0,0\n2,3,0,0\n2,1,0,0\n", 5, 4));
     }
 
-    // 49 rows with pairs of their own; 48 of them are in the first 483 bytes.
-    fn many() -> [u8; 493] {
-        let mut text = [b','; 493];
-        text[0] = b'3';
-        text[1] = b'2';
-        text[2] = b'\n';
-        for i in 0..49usize {
-            let at = 3 + 10 * i;
-            text[at] = b'1';
-            text[at + 1] = b'0' + (i / 7) as u8;
-            text[at + 3] = b'2';
-            text[at + 4] = b'0' + (i % 7) as u8;
-            text[at + 6] = b'0';
-            text[at + 8] = b'0';
-            text[at + 9] = b'\n';
+    // So many rows with pairs of their own.
+    fn many(heap: Global, size: usize) -> Result<String, fmt::Error> {
+        let mut text = String::new(heap);
+        writeln!(text, "32")?;
+        for i in 0..size {
+            writeln!(text, "1{},2{},0,0", i / 7, i % 7)?;
         }
-        text
+        Ok(text)
     }
 
     #[test]
-    fn counts(rt: HostRuntime) {
-        let text = many();
-        assert!(rt; read(&text[0..483]).is_ok());
-        assert!(rt; is_refused(&text, 3, 50));
+    fn counts(rt: HostRuntime) -> Result<(), Fail> {
+        assert!(rt; read(many(rt.alloc(), 48)?.as_bytes()).is_ok());
+        assert!(rt; is_refused(many(rt.alloc(), 49)?.as_bytes(), 3, 50));
+        Ok(())
     }
 }

@@ -1,30 +1,19 @@
 //! Numbers as a row writes them.
-ghost use Rattle.std.specs.Prelude.{◌≡◌, ◌<◌, ◌≤◌, true, length, ◌==◌, slice_index};
+ghost use Rattle.std.specs.Prelude.{◌≡◌, ◌≤◌, length};
 ghost use Rattle.survey_laws.specs.Sheets.{most_digits};
-ghost use Rattle.survey_laws.specs.Check.{is_digit, minus_sign, sized, read_on, number_in, plain, negative as minus, shift_in};
+ghost use Rattle.survey_laws.specs.Check.{sized, read_on, number_in, negative as minus, shift_in};
 
 const MOST_DIGITS: usize = 7;
-
-fn is_digit(b: u8) -> bool
-    ensures { result ≡ is_digit b }
-{
-    b >= b'0' && b <= b'9'
-}
 
 // Whether there are one to seven bytes, with a zero in front only alone.
 fn is_sized(s: &[u8]) -> bool
     ensures { result ≡ sized s.now }
 {
-    if s.len() == 0 {
-        return false;
+    match s {
+        [] => false,
+        [_] => true,
+        [first, ..] => *first != b'0' && s.len() <= MOST_DIGITS,
     }
-    if s.len() > MOST_DIGITS {
-        return false;
-    }
-    if s.len() == 1 {
-        return true;
-    }
-    s[0] != b'0'
 }
 
 fn digits(s: &[u8]) -> Option<u32>
@@ -32,11 +21,11 @@ fn digits(s: &[u8]) -> Option<u32>
     ensures { result ≡ read_on 0 s.now }
 {
     let mut n: u32 = 0;
-    for i in 0..s.len() {
-        if !is_digit(s[i]) {
+    for b in s {
+        if !b.is_ascii_digit() {
             return None;
         }
-        n = n * 10 + (s[i] - b'0') as u32;
+        n = n * 10 + u32::from(*b - b'0');
     }
     Some(n)
 }
@@ -48,40 +37,19 @@ pub fn number(s: &[u8]) -> Option<u32>
     if is_sized(s) { digits(s) } else { None }
 }
 
-fn has_minus(s: &[u8]) -> bool
-    ensures is { result ≡ (slice_index s.now 0 == minus_sign) }
-    ensures some { result ≡ true → 0 < length s.now }
-{
-    if s.len() == 0 {
-        return false;
-    }
-    s[0] == b'-'
-}
-
+// The number with a minus in front, unless it is zero.
 fn below_zero(n: Option<u32>) -> Option<i64>
     ensures { result ≡ minus n }
 {
-    match n {
-        None | Some(0) => None,
-        Some(n) => Some(-(n as i64)),
-    }
-}
-
-fn not_below_zero(n: Option<u32>) -> Option<i64>
-    ensures { result ≡ plain n }
-{
-    match n {
-        None => None,
-        Some(n) => Some(n as i64),
-    }
+    n.filter(|n| *n != 0).map(|n| -i64::from(n))
 }
 
 /// The shift that the bytes write: such a number, with a minus in front if it is below zero.
 pub fn shift(s: &[u8]) -> Option<i64>
     ensures { result ≡ shift_in s.now }
 {
-    if has_minus(s) {
-        return below_zero(number(&s[1..]));
+    match s.strip_prefix(b"-") {
+        Some(size) => below_zero(number(size)),
+        None => number(s).map(i64::from),
     }
-    not_below_zero(number(s))
 }

@@ -3,8 +3,8 @@ ghost use Rattle.std.specs.Prelude.{◌≡◌};
 ghost use Rattle.survey_laws.specs.Check.{wrong_number};
 ghost use Rattle.survey.specs.View.{wrong_of};
 
-/// Two points, and the shift from one to the other in arc seconds.
-#[derive(Clone, Copy)]
+/// Two points, and the shift from one to the other in arc seconds. The default fills the free places of a survey.
+#[derive(Clone, Copy, Debug, Default, PartialEq, Eq)]
 pub struct Row {
     /// One of the points, from 1.
     pub a: u8,
@@ -17,7 +17,7 @@ pub struct Row {
 }
 
 /// What can be wrong with a text.
-#[derive(Clone, Copy)]
+#[derive(Clone, Copy, Debug, PartialEq, Eq)]
 pub enum Fault {
     /// More rows than there can be labels.
     TooManyRows,
@@ -47,7 +47,7 @@ impl Fault {
 }
 
 /// The first thing that is wrong with a text, and the row that has it, where row 1 is the first of the file.
-#[derive(Clone, Copy)]
+#[derive(Clone, Copy, Debug, PartialEq, Eq)]
 pub struct Refusal {
     /// What is wrong.
     pub fault: Fault,

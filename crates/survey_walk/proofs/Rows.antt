@@ -1,42 +1,25 @@
--- Rows of a survey taken one by one.
-use Rattle.std.proofs.Common.{◌≡◌, ℕ, zero, suc, ◌+◌, ◌≤◌, List, [], ◌∷◌, ◌++◌, map, length, take, Some, None, Option, sym, refl, ap, ◌∙◌, subst, add-one, arith}
-use Rattle.std.specs.List.{slice_get, AllByRecursion}
+-- Rows of a survey taken one by one: `kept` is how the code keeps them.
+use Rattle.std.proofs.Common.{◌≡◌, ℕ, ◌+◌, ◌<◌, List, [], ◌∷◌, ◌++◌, map, length, get_or, take, sym, ap, ◌∙◌, subst, arith}
+use Rattle.std.specs.List.{AllByRecursion}
+use Rattle.std.proofs.lemmas.List.{length-map, length-take-le, map_more, get_or-map}
+use Rattle.std.proofs.lemmas.List.Elements.{All-get_or, All-from_recursion}
 
-no_none : {A : Type 0} (x : A) → ◌≡◌ {A = Option A} None (Some x) → ⊥
-no_none x p = let z : ◌≡◌ {A = ℕ} 0 1 = cc in omega arith
+module _ {A B : Type 0} (g : A → B) (kept : List A) (rows : List B) (same : map g kept ≡ rows) (i : ℕ) (h : i < length kept) where
+  within : i < length rows
+  within = omega (arith, h, ap length same, length-map kept g)
 
-same_some : {A : Type 0} (x y : A) → ◌≡◌ {A = Option A} (Some x) (Some y) → x ≡ y
-same_some x y p = cc
+  -- so many are taken before it
+  pub taken : {C : Type 0} (f : B → C) → length (map f (take i rows)) ≡ i
+  taken f = length-map (take i rows) f ∙ length-take-le i rows (omega (arith, within))
 
-module _ {A B : Type 0} (f : A → B) where
-  take_suc : (xs : List A) (i : ℕ) (x : A) → Some x ≡ slice_get xs i → map f (take (suc i) xs) ≡ map f (take i xs) ++ (f x ∷ [])
-  take_suc [] i x h = absurd (no_none x (sym h))
-  take_suc (y ∷ ys) zero x h = ap (λ (z : A). f z ∷ []) (sym (same_some x y h))
-  take_suc (y ∷ ys) (suc i) x h = ap (λ (l : List B). f y ∷ l) (take_suc ys i x h)
+  row_at : (d : A) → get_or rows i (g d) ≡ g (get_or kept i d)
+  row_at d = ap (λ l. get_or l i (g d)) (sym same) ∙ get_or-map g kept i d (g d) h
 
   -- one row more
-  pub take_more : (xs : List A) (i : ℕ) (x : A) → Some x ≡ slice_get xs i → map f (take (i + 1) xs) ≡ map f (take i xs) ++ (f x ∷ [])
-  take_more xs i x h = ap (λ (k : ℕ). map f (take k xs)) (add-one i) ∙ take_suc xs i x h
+  pub take_more : {C : Type 0} (f : B → C) (d : A) (done more : List C) → done ≡ map f (take i rows) → more ≡ done ++ f (g (get_or kept i d)) ∷ [] → more ≡ map f (take (i + 1) rows)
+  take_more f d done more p q =
+      q ∙ ap (λ l. l ++ f (g (get_or kept i d)) ∷ []) p ∙ ap (λ x. map f (take i rows) ++ f x ∷ []) (sym (row_at d)) ∙ sym (map_more f rows i (g d) within)
 
-  -- all rows
-  pub take_all : (xs : List A) (i : ℕ) → length xs ≤ i → map f (take i xs) ≡ map f xs
-  take_all [] zero h = refl
-  take_all [] (suc i) h = refl
-  take_all (y ∷ ys) zero h = absurd (omega arith)
-  take_all (y ∷ ys) (suc i) h = ap (λ (l : List B). f y ∷ l) (take_all ys i (omega arith))
-
--- none is missing
-pub nth_none : {A : Type 0} (xs : List A) (i : ℕ) → None ≡ slice_get xs i → length xs ≤ i
-nth_none [] i h = omega arith
-nth_none (y ∷ ys) zero h = absurd (no_none y h)
-nth_none (y ∷ ys) (suc i) h = let l = nth_none ys i h in omega arith
-
-pub all_nth : {A : Type 0} (P : A → Type 0) (xs : List A) (i : ℕ) (x : A) → Some x ≡ slice_get xs i → AllByRecursion P xs → P x
-all_nth P [] i x h a = absurd (no_none x (sym h))
-all_nth P (y ∷ ys) zero x h a = subst P (sym (same_some x y h)) a.0
-all_nth P (y ∷ ys) (suc i) x h a = all_nth P ys i x h a.1
-
-pub few_taken : {A B : Type 0} (f : A → B) (xs : List A) (i : ℕ) → length (map f (take i xs)) ≤ i
-few_taken f xs zero = omega arith
-few_taken f [] (suc i) = omega arith
-few_taken f (y ∷ ys) (suc i) = let l = few_taken f ys i in omega arith
+  -- what holds of all rows holds of this one
+  pub each_row : (P : B → Type 0) (d : A) → AllByRecursion P rows → P (g (get_or kept i d))
+  each_row P d a = subst P (row_at d) (All-get_or P rows i (g d) within (All-from_recursion P rows a))

@@ -17,10 +17,7 @@ pub(crate) fn graphic_of(survey: &Survey) -> Result<Graphic, EntryRefusal>
         (λ _. Lawful (sheet_of survey.now) → ⊥) }
 {
     let mut graphic = Graphic::new(survey.points())?;
-    for i in 0..survey.len() {
-        let Some(row) = survey.row(i) else {
-            return Ok(graphic);
-        };
+    for row in survey.rows() {
         graphic.add(row.a, row.b)?;
     }
     Ok(graphic)
@@ -31,10 +28,7 @@ pub(crate) fn shifts_of(survey: &Survey) -> Result<Shifts, EntryRefusal>
     ensures { MatchResult result (λ m. entries_of m ≡ shifts_for (sheet_of survey.now)) (λ _. ⊥) }
 {
     let mut shifts = Shifts::new();
-    for i in 0..survey.len() {
-        let Some(row) = survey.row(i) else {
-            return Ok(shifts);
-        };
+    for row in survey.rows() {
         shifts.add(row.across, row.along)?;
     }
     Ok(shifts)

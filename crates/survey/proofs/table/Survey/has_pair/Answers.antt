@@ -1,15 +1,13 @@
-use Rattle.std.proofs.Common.{sym, ◌∙◌, arith}
+use Rattle.std.proofs.Common.{rules, tests, ap, ◌∙◌}
+use Rattle.std.proofs.lemmas.Iterator.{YieldsList-from_slice}
+use Rattle.std.proofs.lemmas.Iterator.Search.{any_from_yields_List}
+use Rattle.survey_laws.specs.Check.{same_pair, met}
 use Rattle.survey.specs.View.{row_of}
-use Rattle.survey.proofs.Kept.{met_here, met_more, met_end}
+use Rattle.survey.proofs.Steps.{any_met}
 use Rattle.survey.proofs.table.Survey.has_pair.Goals as goal
 
-pub returns-then-is_same_pair : goal.returns-then-is_same_pair
-returns-then-is_same_pair c =
-    sym (met_here c.args.self.now c.loop-i.i _ (row_of c.args.row) (omega arith) (sym c.if-is_same_pair.ensures)) ∙ c.loop-i.invariant
-
-pub loop-i-preserved : goal.loop-i-preserved
-loop-i-preserved c =
-    sym (met_more c.args.self.now c.loop-i.i _ (row_of c.args.row) (omega arith) (sym c.if-is_same_pair.ensures)) ∙ c.loop-i.invariant
-
 pub returns : goal.returns
-returns c = sym (met_end c.args.self.now c.loop-i.i (row_of c.args.row) (omega arith)) ∙ c.loop-i.invariant
+returns c =
+    any_from_yields_List (λ q. same_pair (row_of q) (row_of c.args.row)) _ _ _ c.any.ensures.ran (YieldsList-from_slice c.rows.result.now cc) (λ x b q k. search (rules, tests))
+    ∙ any_met row_of c.rows.result.now (row_of c.args.row)
+    ∙ ap (λ qs. met qs (row_of c.args.row)) c.rows.ensures.are
