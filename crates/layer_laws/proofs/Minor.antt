@@ -101,20 +101,16 @@ module _ (n : ℕ) (independent : ℕ → Bool) (kept removed : ℕ) (M : IsMatr
   Joins s t = (e : ℕ) × (has t e ≡ true) × (has s e ≡ false) × (pinned independent kept removed (insert s e) ≡ true)
 
   tells_of : (s : ℕ) → pinned independent kept removed s ≡ true → (s ≡ 0) ⊎ Passes s
-  tells_of s h = go (says _ _ _ h)
-    where
-      go : (eqb s 0 ≡ true) ⊎ Passes s → (s ≡ 0) ⊎ Passes s
-      go (inl z) = inl (is_none s z)
-      go (inr r) = inr r
+  tells_of s = (pinned_means independent kept removed s).0
 
   passes : (s : ℕ) → Passes s → pinned independent kept removed s ≡ true
-  passes s (a, b) = or_right (eqb s 0) _ (and_from _ _ a b)
+  passes s p = (pinned_means independent kept removed s).1 (inr p)
 
   part_passes : (s t : ℕ) → Subset s t → Passes t → Passes s
   part_passes s t p (a, b) = (subset_apart s t removed p a, M.hereditary _ _ (or_subset s t kept p) b)
 
   empty_passes : (s : ℕ) → s ≡ 0 → pinned independent kept removed s ≡ true
-  empty_passes s z = none_passes s (apart s removed && independent (bit_or s kept)) z
+  empty_passes s z = (pinned_means independent kept removed s).1 (inl z)
 
   pub pinned_is : IsMatroid n (pinned independent kept removed)
   pinned_is = record {
