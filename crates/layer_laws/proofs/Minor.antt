@@ -1,5 +1,5 @@
 -- Some labels taken for granted, and some removed.
-use Rattle.std.proofs.Common.{◌≡◌, ℕ, ◌^◌, ◌<◌, ◌≤◌, Bool, true, false, ◌&&◌, ◌||◌, eqb, ◌⊎◌, refl, ap, ◌∙◌, inl, inr, arith}
+use Rattle.std.proofs.Common.{◌≡◌, ℕ, ◌^◌, ◌<◌, ◌≤◌, Bool, true, false, ◌&&◌, ◌||◌, eqb, ◌⊎◌, ◌↔◌, refl, ap, ◌∙◌, inl, inr, arith}
 use native.Mathlib.Decide.{ℕ_discrete}
 use lib.Bits.{bit_and, bit_or}
 use Rattle.std.proofs.lemmas.Bool.Decides.{nat_tests}
@@ -10,7 +10,7 @@ use Rattle.labels.proofs.Card.{ext, card_zero, card_or_and, more}
 use Rattle.matroid_laws.specs.Matroids.{IsMatroid}
 use Rattle.matroid_laws.specs.Greedy.{greedy}
 use Rattle.matroid_laws.proofs.Greedy.{greedy_independent}
-use Rattle.layer_laws.specs.Layers.{apart, pinned, minor}
+use Rattle.layer_laws.specs.Layers.{apart, pinned, minor, InMinor}
 use Rattle.layer_laws.proofs.Sets.{subset_below}
 
 -- of sets alone
@@ -80,6 +80,17 @@ none_apart s g z = apart_passes s g (λ e m. let q = ap (λ (x : ℕ). has x e) 
 none_beside : (s k : ℕ) → s ≡ 0 → bit_or s k ≡ k
 none_beside s k z = ext _ _ (λ e. let q = ap (λ (x : ℕ). has x e) z in grind (arith, members))
 
+pub pinned_means : (independent : ℕ → Bool) (kept removed s : ℕ) → (pinned independent kept removed s ≡ true) ↔ InMinor independent kept removed s
+pinned_means independent kept removed s = (λ h. tells (says _ _ _ h), passed)
+  where
+    tells : (eqb s 0 ≡ true) ⊎ ((apart s removed ≡ true) × (independent (bit_or s kept) ≡ true)) → InMinor independent kept removed s
+    tells (inl z) = inl (is_none s z)
+    tells (inr r) = inr r
+
+    passed : InMinor independent kept removed s → pinned independent kept removed s ≡ true
+    passed (inl z) = none_passes s (apart s removed && independent (bit_or s kept)) z
+    passed (inr (a, b)) = or_right (eqb s 0) _ (and_from _ _ a b)
+
 module _ (n : ℕ) (independent : ℕ → Bool) (kept removed : ℕ) (M : IsMatroid n independent) where
   -- s passes without being empty
   abbrev Passes : ℕ → Type 0
@@ -90,20 +101,16 @@ module _ (n : ℕ) (independent : ℕ → Bool) (kept removed : ℕ) (M : IsMatr
   Joins s t = (e : ℕ) × (has t e ≡ true) × (has s e ≡ false) × (pinned independent kept removed (insert s e) ≡ true)
 
   tells_of : (s : ℕ) → pinned independent kept removed s ≡ true → (s ≡ 0) ⊎ Passes s
-  tells_of s h = go (says _ _ _ h)
-    where
-      go : (eqb s 0 ≡ true) ⊎ Passes s → (s ≡ 0) ⊎ Passes s
-      go (inl z) = inl (is_none s z)
-      go (inr r) = inr r
+  tells_of s = (pinned_means independent kept removed s).0
 
   passes : (s : ℕ) → Passes s → pinned independent kept removed s ≡ true
-  passes s (a, b) = or_right (eqb s 0) _ (and_from _ _ a b)
+  passes s p = (pinned_means independent kept removed s).1 (inr p)
 
   part_passes : (s t : ℕ) → Subset s t → Passes t → Passes s
   part_passes s t p (a, b) = (subset_apart s t removed p a, M.hereditary _ _ (or_subset s t kept p) b)
 
   empty_passes : (s : ℕ) → s ≡ 0 → pinned independent kept removed s ≡ true
-  empty_passes s z = none_passes s (apart s removed && independent (bit_or s kept)) z
+  empty_passes s z = (pinned_means independent kept removed s).1 (inl z)
 
   pub pinned_is : IsMatroid n (pinned independent kept removed)
   pinned_is = record {

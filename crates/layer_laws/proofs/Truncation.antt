@@ -1,5 +1,5 @@
 -- At most k labels.
-use Rattle.std.proofs.Common.{◌≡◌, ℕ, ◌<◌, ◌≤◌, Bool, true, false, leb, arith}
+use Rattle.std.proofs.Common.{◌≡◌, ℕ, ◌<◌, ◌≤◌, Bool, true, false, leb, ◌↔◌, arith}
 use Rattle.std.proofs.lemmas.Bool.Decides.{nat_tests}
 use Rattle.std.proofs.lemmas.Bool.{and_from, and_parts}
 use Rattle.labels.specs.Sets.{has, insert, card}
@@ -25,3 +25,6 @@ truncation_is n independent k M = record {
     joins : (s t : ℕ) → card s < card t → card t ≤ k → (e : ℕ) × (has t e ≡ true) × (has s e ≡ false) × (independent (insert s e) ≡ true)
         → (e : ℕ) × (has t e ≡ true) × (has s e ≡ false) × (truncated independent k (insert s e) ≡ true)
     joins s t h l (e, x, y, z) = (e, x, y, and_from _ _ z (few_passes k (insert s e) (omega (arith, card_insert s e (has_pos t e x) y))))
+
+pub truncation_means : (independent : ℕ → Bool) (k s : ℕ) → (truncated independent k s ≡ true) ↔ ((independent s ≡ true) × (card s ≤ k))
+truncation_means independent k s = (λ h. ((and_parts _ _ h).0, few k s (and_parts _ _ h).1), λ (p, l). and_from _ _ p (few_passes k s l))

@@ -1,5 +1,5 @@
 -- Matroids made from a matroid below: truncation, dual and minor.
-use Rattle.std.specs.Prelude.{◌≡◌, ℕ, ◌^◌, ◌<◌, Bool, true, ◌&&◌, ◌||◌, ◌↔◌, ◌==◌, bit_and, bit_or, nat_le, nat_lt}
+use Rattle.std.specs.Prelude.{◌≡◌, ℕ, ◌^◌, ◌<◌, Bool, true, ◌&&◌, ◌||◌, ◌⊎◌, ◌↔◌, ◌==◌, bit_and, bit_or, nat_le, nat_lt}
 use Rattle.labels.specs.Sets.{has, insert, full, difference, Subset, card, no_label}
 use Rattle.matroid_laws.specs.Matroids.{IsMatroid, Base}
 use Rattle.matroid_laws.specs.Greedy.{greedy}
@@ -44,6 +44,17 @@ minor n independent ins outs s = apart s (bit_or ins outs) && independent (bit_o
 -- the same for a kept set and a removed set that are any two sets: even where the kept one is dependent, the empty set passes
 abbrev pub pinned : (ℕ → Bool) → ℕ → ℕ → ℕ → Bool
 pinned independent kept removed s = s == 0 || (apart s removed && independent (bit_or s kept))
+
+-- what passes is empty, or has none of the removed labels and is independent below together with the kept ones
+abbrev pub InMinor : (ℕ → Bool) → ℕ → ℕ → ℕ → Type 0
+InMinor independent kept removed s = (s ≡ 0) ⊎ ((apart s removed ≡ true) × (independent (bit_or s kept) ≡ true))
+
+-- ---- any kind of layer
+
+-- the family that a layer of kind k makes of a matroid is a matroid again, and has exactly the sets that it means
+pub record LayerLaws {K : Type 0} (family : K → ℕ → (ℕ → Bool) → ℕ → Bool) (means : K → ℕ → (ℕ → Bool) → ℕ → Type 0) : Type 0 where
+  pub is_matroid : (k : K) (n : ℕ) (independent : ℕ → Bool) → IsMatroid n independent → IsMatroid n (family k n independent)
+  pub is_meant : (k : K) (n : ℕ) (independent : ℕ → Bool) → IsMatroid n independent → (s : ℕ) → (family k n independent s ≡ true) ↔ means k n independent s
 
 -- ---- what is claimed
 

@@ -18,7 +18,7 @@ outside_is n s all few h z =
 within_passes : (n s all : ℕ) → all ≡ full n → s ≤ all → ltb s (2 ^ n) ≡ true
 within_passes n s all z h = let p = pow_pos n in let l : s < 2 ^ n = omega arith in grind (arith, nat_tests)
 
-and_true : (a b : Bool) → a ≡ true → b ≡ (a && b)
+pub and_true : (a b : Bool) → a ≡ true → b ≡ (a && b)
 and_true a b h = grind arith
 
 pub dual_is : (n : ℕ) (f : ℕ → Bool) (s size all held : ℕ) (r : Bool) → n ≤ 64 → s < 2 ^ 64 → size ≡ n → all ≡ full (min size 64) → s ≤ all

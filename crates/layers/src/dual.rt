@@ -1,17 +1,19 @@
 ghost use Rattle.std.specs.Prelude.{◌≡◌, ℕ, true, ◌↔◌};
 ghost use Rattle.layer_laws.specs.Layers.{BaseOutside, dual};
-ghost use Rattle.layer_laws.proofs.Dual.{dual_is};
-ghost use Rattle.std.proofs.Common.{rules};
+ghost use Rattle.layer_laws.proofs.Dual.{dual_is, dual_means};
 
 use crate::joins::none_joins;
+use crate::kind::LayerKind;
+use crate::layer::Layer;
 use label_words::full_to;
 use matroid::{Matroid, greedy};
 
+/// The kind of layer whose bases are the complements of the bases below.
+#[derive(Clone, Copy, Debug)]
+pub struct Complement;
+
 /// The dual: a set is independent where the labels outside it contain a base of the matroid below.
-#[derive(Drop)]
-pub struct Dual<P: Matroid> {
-    below: P,
-}
+pub type Dual<P> = Layer<P, Complement>;
 
 impl<P: Matroid> Dual<P> {
     /// The dual of the matroid below.
@@ -20,51 +22,28 @@ impl<P: Matroid> Dual<P> {
         ensures family { (s : ℕ) → (dual (P.Matroid.size result.below) (P.Matroid.independent result.below) s ≡ true)
             ↔ BaseOutside (P.Matroid.size below) (P.Matroid.independent below) s }
     {
-        Dual { below }
-    }
-
-    /// The matroid below.
-    pub fn below(&self) -> &P
-        ensures { result.now ≡ self.now.below }
-    {
-        &self.below
-    }
-
-    /// Takes the layer off: the matroid below, as it was.
-    pub fn into_below(self) -> P
-        ensures { result ≡ self.below }
-    {
-        self.below
+        Layer {
+            below,
+            kind: Complement,
+        }
     }
 }
 
-impl<P: Matroid> Matroid for Dual<P> {
-    ghost size = { λ d. P.Matroid.size d.below };
+impl LayerKind for Complement {
+    ghost family = { λ _ n f. dual n f };
 
-    ghost independent = { λ d. dual (P.Matroid.size d.below) (P.Matroid.independent d.below) };
+    ghost means = { λ _ n f s. BaseOutside n f s };
 
-    ghost few = { Prim.search rules };
-
-    ghost matroid = { λ d. dual_is (P.Matroid.size d.below) (P.Matroid.independent d.below) (P.Matroid.matroid d.below) };
-
-    /// As many labels as below.
-    fn size(&self) -> u8
-        ensures { result ≡ P.Matroid.size self.now.below }
-    {
-        self.below.size()
-    }
+    ghost lawful = { record { is_matroid = λ _ n f M. dual_is n f M; is_meant = λ _ n f M s. dual_means n f M s } };
 
     /// Asks once below for each label: whether it joins what is kept of the labels outside `set`, or, where it is in `set`,
     /// whether it could still join all that is kept of them.
-    fn is_independent(&self, set: u64) -> bool
-        ensures is { result ≡ dual (P.Matroid.size self.now.below) (P.Matroid.independent self.now.below) set }
-        ensures means { (result ≡ true) ↔ BaseOutside (P.Matroid.size self.now.below) (P.Matroid.independent self.now.below) set }
-    {
-        let all = full_to(self.size());
+    fn is_independent<P: Matroid>(&self, below: &P, set: u64) -> bool {
+        let all = full_to(below.size());
         if set > all {
             return false;
         }
-        let held = greedy(&self.below, all & !set);
-        none_joins(&self.below, set, held)
+        let held = greedy(below, all & !set);
+        none_joins(below, set, held)
     }
 }

@@ -4,12 +4,16 @@
 
 mod dual;
 mod joins;
+mod kind;
+mod layer;
 mod minor;
 mod truncation;
 
-pub use dual::Dual;
-pub use minor::Minor;
-pub use truncation::Truncation;
+pub use dual::{Complement, Dual};
+pub use kind::LayerKind;
+pub use layer::Layer;
+pub use minor::{Minor, Pins};
+pub use truncation::{Cap, Truncation};
 
 #[cfg(test)]
 mod tests;

@@ -1,64 +1,45 @@
 ghost use Rattle.std.specs.Prelude.{◌≡◌, ℕ, ◌≤◌, true, ◌↔◌};
 ghost use Rattle.labels.specs.Sets.{card};
 ghost use Rattle.layer_laws.specs.Layers.{truncated};
-ghost use Rattle.layer_laws.proofs.Truncation.{truncation_is};
-ghost use Rattle.std.proofs.Common.{rules};
+ghost use Rattle.layer_laws.proofs.Truncation.{truncation_is, truncation_means};
 
+use crate::kind::LayerKind;
+use crate::layer::Layer;
 use matroid::Matroid;
 
-/// The independent sets below that have at most so many labels.
-#[derive(Drop)]
-pub struct Truncation<P: Matroid> {
-    below: P,
+/// The kind of layer that caps the number of labels.
+#[derive(Clone, Copy, Debug)]
+pub struct Cap {
     most: u64,
 }
+
+/// The independent sets below that have at most so many labels.
+pub type Truncation<P> = Layer<P, Cap>;
 
 impl<P: Matroid> Truncation<P> {
     /// Caps the sets of the matroid below at `most` labels; a number of at least all labels caps nothing.
     pub fn new(below: P, most: u64) -> Truncation<P>
         ensures below { result.below ≡ below }
-        ensures most { result.most ≡ most }
-        ensures family { (s : ℕ) → (truncated (P.Matroid.independent result.below) result.most s ≡ true)
+        ensures most { result.kind.most ≡ most }
+        ensures family { (s : ℕ) → (truncated (P.Matroid.independent result.below) result.kind.most s ≡ true)
             ↔ ((P.Matroid.independent below s ≡ true) × (card s ≤ most)) }
     {
-        Truncation { below, most }
-    }
-
-    /// The matroid below.
-    pub fn below(&self) -> &P
-        ensures { result.now ≡ self.now.below }
-    {
-        &self.below
-    }
-
-    /// Takes the layer off: the matroid below, as it was.
-    pub fn into_below(self) -> P
-        ensures { result ≡ self.below }
-    {
-        self.below
+        Layer {
+            below,
+            kind: Cap { most },
+        }
     }
 }
 
-impl<P: Matroid> Matroid for Truncation<P> {
-    ghost size = { λ t. P.Matroid.size t.below };
+impl LayerKind for Cap {
+    ghost family = { λ k _ f. truncated f k.most };
 
-    ghost independent = { λ t. truncated (P.Matroid.independent t.below) t.most };
+    ghost means = { λ k _ f s. (f s ≡ true) × (card s ≤ k.most) };
 
-    ghost few = { Prim.search rules };
-
-    ghost matroid = { λ t. truncation_is (P.Matroid.size t.below) (P.Matroid.independent t.below) t.most (P.Matroid.matroid t.below) };
-
-    /// As many labels as below.
-    fn size(&self) -> u8
-        ensures { result ≡ P.Matroid.size self.now.below }
-    {
-        self.below.size()
-    }
+    ghost lawful = { record { is_matroid = λ k n f M. truncation_is n f k.most M; is_meant = λ k _ f _ s. truncation_means f k.most s } };
 
     /// Asks below once, and not at all of a set with too many labels.
-    fn is_independent(&self, set: u64) -> bool
-        ensures is { result ≡ truncated (P.Matroid.independent self.now.below) self.now.most set }
-    {
-        set.count_ones() as u64 <= self.most && self.below.is_independent(set)
+    fn is_independent<P: Matroid>(&self, below: &P, set: u64) -> bool {
+        u64::from(set.count_ones()) <= self.most && below.is_independent(set)
     }
 }

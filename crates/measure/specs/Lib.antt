@@ -1,4 +1,5 @@
 pub mod Laws
+pub mod Table
 pub mod Shifts
 pub mod Words
 pub mod Flips

@@ -3,8 +3,8 @@ use Rattle.std.specs.Prelude.{ℕ, List, ℤ, pos, ◌+ℤ◌, neg_ℤ}
 use Rattle.std.proofs.Common.{lit<}
 use Rattle.std.specs.Int.{int_wrap, w64}
 use Rattle.std.proofs.lemmas.Int.{SFits-int_wrap}
-use Rattle.entries.specs.Table.{values, entry_or}
-use Rattle.measure.specs.declared.table.Shifts.{Shifts}
+use Rattle.measure.specs.Table.{worths_of, worth_at}
+use Rattle.measure.specs.declared.table.Worths.{Worths}
 use Rattle.measure.specs.declared.value.Shift.{Shift}
 
 -- the shift by these numbers, each modulo 2 ^ 64: by the numbers themselves where they fit 64 bits
@@ -23,10 +23,14 @@ shift_sum a b = shift_of (a.across +ℤ b.across) (a.along +ℤ b.along)
 abbrev pub shift_opposite : Shift → Shift
 shift_opposite a = shift_of (neg_ℤ a.across) (neg_ℤ a.along)
 
+-- a table of shifts, since specs have no name for an alias
+abbrev pub Shifts : Type 0
+Shifts = Worths Shift
+
 -- the shifts of the labels 1, 2, ..
 abbrev pub entries_of : Shifts → List Shift
-entries_of m = values m.table
+entries_of m = worths_of m
 
 -- the shift of a label; none where the label has no entry
 abbrev pub entry_at : List Shift → ℕ → Shift
-entry_at entries e = entry_or entries shift_zero e
+entry_at entries e = worth_at shift_zero entries e

@@ -1,7 +1,7 @@
 -- Words of flipped places, their sums, and a table of them.
 use Rattle.std.specs.Prelude.{ℕ, List, bit_xor}
-use Rattle.entries.specs.Table.{values, entry_or}
-use Rattle.measure.specs.declared.table.Words.{Words}
+use Rattle.measure.specs.Table.{worths_of, worth_at}
+use Rattle.measure.specs.declared.table.Worths.{Worths}
 use Rattle.measure.specs.declared.value.Word.{Word}
 
 -- the word with these binary digits
@@ -20,10 +20,14 @@ word_sum a b = word_with (bit_xor a.bits b.bits)
 abbrev pub word_opposite : Word → Word
 word_opposite a = a
 
+-- a table of words, since specs have no name for an alias
+abbrev pub Words : Type 0
+Words = Worths Word
+
 -- the words of the labels 1, 2, ..
 abbrev pub words_of : Words → List Word
-words_of m = values m.table
+words_of m = worths_of m
 
 -- the word of a label; none where the label has no entry
 abbrev pub word_at : List Word → ℕ → Word
-word_at words e = entry_or words word_zero e
+word_at words e = worth_at word_zero words e

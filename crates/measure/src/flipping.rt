@@ -1,55 +1,55 @@
-ghost use Rattle.measure.specs.Words.{word_at, word_opposite, word_sum, word_zero, words_of};
-ghost use Rattle.std.specs.Prelude.{◌≡◌, length};
+ghost use Rattle.measure.specs.Words.{word_opposite, word_sum, word_with, word_zero, words_of};
+ghost use Rattle.std.specs.Prelude.{◌≡◌, ◌<◌, [], ◌∷◌, ◌++◌, length, MatchResult};
+ghost use Rattle.labels.specs.Sets.{limit};
 ghost use Rattle.measure.specs.Flips.{words_group};
 
-use crate::interface::Measure;
+use crate::group::Group;
 use crate::table::Words;
 use crate::value::Word;
+use entry::EntryRefusal;
 
-impl Words {
-    /// How many labels have a word.
-    pub fn len(&self) -> usize
-        ensures { result ≡ length (words_of self.now) }
-    {
-        self.table.len() as usize
-    }
-}
-
-impl Measure for Words {
-    type Value = Word;
-
+impl Group for Word {
     ghost zero = { word_zero };
 
     ghost sum = { word_sum };
 
     ghost opposite = { word_opposite };
 
-    ghost worth = { λ m e. word_at (words_of m) e };
-
     ghost lawful = { words_group };
 
-    fn zero(&self) -> Word {
+    fn zero() -> Word {
         Word { bits: 0 }
     }
 
-    fn sum(&self, a: Word, b: Word) -> Word {
+    fn sum(self, other: Word) -> Word {
         Word {
-            bits: a.bits ^ b.bits,
+            bits: self.bits ^ other.bits,
         }
     }
 
-    fn opposite(&self, a: Word) -> Word {
-        a
+    fn opposite(self) -> Word {
+        self
     }
+}
 
-    fn worth(&self, label: u8) -> Word {
-        self.table.at(label, self.zero())
+impl Words {
+    /// Adds the word of the next label. Refused, with nothing changed, if there can be no such label.
+    pub fn add(&mut self, bits: u64) -> Result<(), EntryRefusal>
+        ensures { MatchResult result
+            (λ _. (length (words_of self.old) < limit)
+            × (words_of self.new ≡ words_of self.old ++ word_with bits ∷ []))
+            (λ e. (length (words_of self.old) ≡ limit)
+            × (e ≡ EntryRefusal.TooManyLabels)
+            × (self.new ≡ self.old)) }
+    {
+        self.table.add(Word { bits })
     }
 }
 
 #[cfg(test)]
 mod tests {
     use super::*;
+    use crate::Measure;
     use labels::LIMIT;
     use std::test::Fail;
 

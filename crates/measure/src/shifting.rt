@@ -1,62 +1,63 @@
-ghost use Rattle.measure.specs.Shifts.{entries_of, entry_at, shift_opposite, shift_sum, shift_zero};
-ghost use Rattle.std.specs.Prelude.{◌≡◌, length};
+ghost use Rattle.measure.specs.Shifts.{entries_of, shift_of, shift_opposite, shift_sum, shift_zero};
+ghost use Rattle.std.specs.Prelude.{◌≡◌, ◌<◌, [], ◌∷◌, ◌++◌, length, MatchResult};
+ghost use Rattle.labels.specs.Sets.{limit};
 ghost use Rattle.measure.specs.Group.{shifts_group};
 
-use crate::interface::Measure;
+use crate::group::Group;
 use crate::table::Shifts;
 use crate::value::Shift;
+use entry::EntryRefusal;
 
-impl Shifts {
-    /// How many labels have a shift.
-    pub fn len(&self) -> usize
-        ensures { result ≡ length (entries_of self.now) }
-    {
-        self.table.len() as usize
-    }
-}
-
-impl Measure for Shifts {
-    type Value = Shift;
-
+impl Group for Shift {
     ghost zero = { shift_zero };
 
     ghost sum = { shift_sum };
 
     ghost opposite = { shift_opposite };
 
-    ghost worth = { λ m e. entry_at (entries_of m) e };
-
     ghost lawful = { shifts_group };
 
-    fn zero(&self) -> Shift {
+    fn zero() -> Shift {
         Shift {
             across: 0,
             along: 0,
         }
     }
 
-    fn sum(&self, a: Shift, b: Shift) -> Shift {
+    fn sum(self, other: Shift) -> Shift {
         Shift {
-            across: a.across.wrapping_add(b.across),
-            along: a.along.wrapping_add(b.along),
+            across: self.across.wrapping_add(other.across),
+            along: self.along.wrapping_add(other.along),
         }
     }
 
-    fn opposite(&self, a: Shift) -> Shift {
+    fn opposite(self) -> Shift {
         Shift {
-            across: a.across.wrapping_neg(),
-            along: a.along.wrapping_neg(),
+            across: self.across.wrapping_neg(),
+            along: self.along.wrapping_neg(),
         }
     }
+}
 
-    fn worth(&self, label: u8) -> Shift {
-        self.table.at(label, self.zero())
+impl Shifts {
+    /// Adds the shift of the next label. Refused, with nothing changed, if there can be no such label.
+    pub fn add(&mut self, across: i64, along: i64) -> Result<(), EntryRefusal>
+        ensures cases { MatchResult result
+            (λ _. (length (entries_of self.old) < limit)
+            × (entries_of self.new ≡ entries_of self.old ++ shift_of across along ∷ []))
+            (λ e. (length (entries_of self.old) ≡ limit)
+            × (e ≡ EntryRefusal.TooManyLabels)
+            × (self.new ≡ self.old)) }
+        ensures same { ((shift_of across along).across ≡ across) × ((shift_of across along).along ≡ along) }
+    {
+        self.table.add(Shift { across, along })
     }
 }
 
 #[cfg(test)]
 mod tests {
     use super::*;
+    use crate::Measure;
     use labels::LIMIT;
     use std::test::Fail;
 

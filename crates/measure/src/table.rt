@@ -1,14 +1,14 @@
 use crate::value::{Shift, Word};
 use entries::Entries;
 
-/// A shift for each of the labels 1, 2, .. in turn, as they were added.
+/// What the labels 1, 2, .. are worth in turn, as their values were added.
 #[derive(Drop)]
-pub struct Shifts {
-    pub(crate) table: Entries<Shift>,
+pub struct Worths<V> {
+    pub(crate) table: Entries<V>,
 }
 
+/// A shift for each of the labels 1, 2, .. in turn, as they were added.
+pub type Shifts = Worths<Shift>;
+
 /// A word for each of the labels 1, 2, .. in turn, as they were added.
-#[derive(Drop)]
-pub struct Words {
-    pub(crate) table: Entries<Word>,
-}
+pub type Words = Worths<Word>;

@@ -1,5 +1,5 @@
-ghost use Rattle.std.specs.Prelude.{◌≡◌, ◌+◌, ◌<◌, [], ◌∷◌, ◌++◌, MatchResult, slice_set};
-ghost use Rattle.roll.specs.View.{beyond, filled, size};
+ghost use Rattle.std.specs.Prelude.{◌≡◌, ◌<◌, MatchResult};
+ghost use Rattle.roll.specs.View.{Appends, beyond, size};
 
 use crate::lent::Roll;
 use crate::refusal::RollRefusal;
@@ -17,18 +17,12 @@ impl<'a, T: Copy> Roll<'a, T> {
     /// Appends an entry. Refused, with nothing changed, exactly where no entry is free.
     pub fn append(&mut self, entry: T) -> Result<(), RollRefusal>
         ensures cases { MatchResult result
-            (λ _. (self.old.used < size self.old)
-            × (filled self.new ≡ filled self.old ++ entry ∷ [])
-            × (self.new.room.now ≡ slice_set self.old.room.now self.old.used entry)
-            × (self.new.used ≡ self.old.used + 1))
+            (λ _. (self.old.used < size self.old) × Appends self.old self.new entry)
             (λ e. (e ≡ RollRefusal.Full)
             × (self.old.used ≡ size self.old)
             × (self.new.room.now ≡ self.old.room.now)
             × (self.new.used ≡ self.old.used)) }
-        ensures added { self.old.used < size self.old
-            → (filled self.new ≡ filled self.old ++ entry ∷ [])
-            × (self.new.room.now ≡ slice_set self.old.room.now self.old.used entry)
-            × (self.new.used ≡ self.old.used + 1) }
+        ensures added { self.old.used < size self.old → Appends self.old self.new entry }
         ensures beyond { beyond self.new.used self.new ≡ beyond self.new.used self.old }
         ensures size { size self.new ≡ size self.old }
         ensures lender { self.new.room.ghost_name ≡ self.old.room.ghost_name }

@@ -25,17 +25,19 @@ impl<'a, T: Copy> Roll<'a, T> {
         self.len() == self.room.len()
     }
 
+    /// The entries, in the order in which they were appended.
+    pub fn entries(&self) -> &[T]
+        ensures { result.now ≡ filled self.now }
+    {
+        &self.room[..self.len()]
+    }
+
     /// The entry at `position`, from 0 on; none where there is no entry yet.
     pub fn get(&self, position: usize) -> Option<T>
         ensures { MatchOption result
             (self.now.used ≤ position)
             (λ x. (position < self.now.used) × (x ≡ slice_index_or (filled self.now) position x)) }
     {
-        let room: &[T] = &*self.room;
-        if position < self.len() {
-            Some(room[position])
-        } else {
-            None
-        }
+        self.entries().get(position).copied()
     }
 }

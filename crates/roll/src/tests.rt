@@ -41,6 +41,17 @@ fn numbers(rt: HostRuntime) -> Result<(), Fail> {
 }
 
 #[test]
+fn entries_in_order(rt: HostRuntime) -> Result<(), Fail> {
+    let mut buffer = [9u64; 3];
+    let mut roll = Roll::new(&mut buffer);
+    assert!(rt; roll.entries().is_empty());
+    roll.append(5)?;
+    roll.append(6)?;
+    assert!(rt; roll.entries() == [5, 6].as_slice());
+    Ok(())
+}
+
+#[test]
 fn lent(rt: HostRuntime) {
     let none = Pair {
         left: 0,

@@ -8,9 +8,8 @@ use Rattle.graphic.specs.declared.graph.Graphic.{Graphic}
 use Rattle.graphic.specs.Graphs.{forest}
 use Rattle.graphic.specs.Edges.{graph}
 use Rattle.tie_rule.specs.declared.closest.Closest.{Closest}
-use Rattle.measure.specs.declared.table.Shifts.{Shifts}
 use Rattle.measure.specs.declared.value.Shift.{Shift}
-use Rattle.measure.specs.Shifts.{shift_zero, shift_sum, shift_opposite, entries_of, entry_at}
+use Rattle.measure.specs.Shifts.{Shifts, shift_zero, shift_sum, shift_opposite, entries_of, entry_at}
 use Rattle.walk_laws.specs.Settings.{Setting}
 use Rattle.walk_laws.specs.Steps.{begun}
 use Rattle.walk_laws.specs.Law.{LawOfLife, SameAsG}

@@ -1,1 +1,2 @@
 mod Highest
+mod Taken

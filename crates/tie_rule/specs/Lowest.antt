@@ -43,7 +43,7 @@ lowest_below_one e s f l h a = go (lowest_below e s) (first_passing_is (has s) (
 pub some_below_none : (e s : ℕ) → ((f : ℕ) → f < e → has s f ≡ false) → some_below e s ≡ false
 some_below_none e s none = let p = no_label_passes (has s) (e - 1) (λ f l g. none f (omega arith)) in grind arith
 
-some_below_one : (e s f : ℕ) → f < e → has s f ≡ true → some_below e s ≡ true
+pub some_below_one : (e s f : ℕ) → f < e → has s f ≡ true → some_below e s ≡ true
 some_below_one e s f l h = go (cases_Bool (no_label (has s) (e - 1)))
   where
     go : (no_label (has s) (e - 1) ≡ true) ⊎ (no_label (has s) (e - 1) ≡ false) → some_below e s ≡ true

@@ -8,16 +8,16 @@ use Rattle.tie_rule.specs.Candidates.{lowest_below, some_below}
 use Rattle.tie_rule.specs.Lowest.{lowest_below_is, lowest_below_none, some_below_none}
 
 -- what the rule takes, and where it is then
-abbrev taken : Bool → ℕ → ℕ → ℕ
+abbrev pub taken : Bool → ℕ → ℕ → ℕ
 taken far e c = cond far (lowest_below e c) (highest_below e c)
 
-abbrev turned : Bool → ℕ → ℕ → Turnabout
+abbrev pub turned : Bool → ℕ → ℕ → Turnabout
 turned far e c = record { far = differs (some_below e c) far }
 
-abbrev at : Bool → Turnabout
+abbrev pub at : Bool → Turnabout
 at far = record { far = far }
 
-taken_is : (far : Bool) (e c f : ℕ) → f < e → has c f ≡ true → (taken far e c < e) × (has c (taken far e c) ≡ true)
+pub taken_is : (far : Bool) (e c f : ℕ) → f < e → has c f ≡ true → (taken far e c < e) × (has c (taken far e c) ≡ true)
 taken_is true e c f l h = lowest_below_is e c f l h
 taken_is false e c f l h = highest_below_is e c f l h
 

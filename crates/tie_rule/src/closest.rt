@@ -4,31 +4,24 @@ ghost use Rattle.std.specs.Int.Count.{count_leading_zeros};
 ghost use Rattle.labels.proofs.Passing.{highest_below_is, highest_below_none};
 
 use crate::rule::TieRule;
-
-/// How many labels a word can hold.
-const WIDTH: u8 = 64;
+use label_words::full_to;
 
 /// The labels of `set` below `label`.
 pub(crate) fn below(label: u8, set: u64) -> u64
     ensures { (f : ℕ) → has result f ≡ (nat_lt f label && has set f) }
 {
-    if label == 0 {
-        0
-    } else if label > WIDTH {
-        set
-    } else {
-        set & ((1u64 << (label - 1)) - 1)
-    }
+    set & full_to(label.saturating_sub(1))
 }
 
 /// The highest label of `set`, or 0.
-pub(crate) fn highest(set: u64) -> u8
+fn highest(set: u64) -> u8
     ensures { result ≡ 64 - count_leading_zeros 64 set }
 {
-    WIDTH - set.leading_zeros() as u8
+    (u64::BITS - set.leading_zeros()) as u8
 }
 
 /// The rule that takes the candidate closest to the label: the highest one. It keeps no state.
+// Not one type with `Furthest`, by a parameter for the end: an alias of such a type is no value, and callers write `Closest`.
 #[derive(Clone, Copy, Debug)]
 pub struct Closest;
 

@@ -7,7 +7,7 @@ use crate::closest::below;
 use crate::rule::TieRule;
 
 /// The lowest label of `set`, or 0.
-pub(crate) fn lowest(set: u64) -> u8
+fn lowest(set: u64) -> u8
     ensures { result ≡ (if nat_eq set 0 then 0 else count_trailing_zeros 64 set + 1) }
 {
     if set == 0 {

@@ -1,10 +1,10 @@
 ghost use Rattle.labels.specs.Sets.{differs, highest_below};
 ghost use Rattle.tie_rule.specs.Candidates.{lowest_below, some_below};
 ghost use Rattle.std.specs.Prelude.{◌≡◌, false, if◌then◌else◌};
-ghost use Rattle.tie_rule.specs.Turns.{turn_picks, turn_idle};
+ghost use Rattle.tie_rule.specs.Turns.{taken, turn_picks, turn_idle};
 
-use crate::closest::{below, highest};
-use crate::furthest::lowest;
+use crate::closest::Closest;
+use crate::furthest::Furthest;
 use crate::rule::TieRule;
 
 /// The rule that takes the closest and the furthest candidate by turns. Where there is no candidate, the turn stays.
@@ -21,6 +21,17 @@ impl Turnabout {
     {
         Turnabout { far: false }
     }
+
+    /// What the next choice takes, or 0.
+    fn take(&self, label: u8, set: u64) -> u8
+        ensures { result ≡ taken self.now.far label set }
+    {
+        if self.far {
+            Furthest.choose(label, set)
+        } else {
+            Closest.choose(label, set)
+        }
+    }
 }
 
 impl TieRule for Turnabout {
@@ -31,17 +42,11 @@ impl TieRule for Turnabout {
     ghost lawful = { record { picks = turn_picks; idle = turn_idle } };
 
     fn choose(&mut self, label: u8, set: u64) -> u8 {
-        let candidates = below(label, set);
-        if candidates == 0 {
-            return 0;
+        let choice = self.take(label, set);
+        if choice != 0 {
+            self.far = !self.far;
         }
-        let far = self.far;
-        self.far = !far;
-        if far {
-            lowest(candidates)
-        } else {
-            highest(candidates)
-        }
+        choice
     }
 }
 

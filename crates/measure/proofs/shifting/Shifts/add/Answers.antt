@@ -6,11 +6,10 @@ use Rattle.entry.specs.declared.EntryRefusal.TheVariants.{TooManyLabels}
 use Rattle.labels.specs.Sets.{limit}
 use Rattle.entries.specs.declared.table.Entries.{Entries}
 use Rattle.entries.specs.Table.{values}
-use Rattle.measure.specs.Shifts.{shift_of}
-use Rattle.measure.specs.declared.table.Shifts.{Shifts}
+use Rattle.measure.specs.Shifts.{Shifts, shift_of}
 use Rattle.measure.specs.declared.value.Shift.{Shift}
 use Rattle.measure.specs.Group.{itself, same_shift}
-use Rattle.measure.proofs.table.Shifts.add.Goals as goal
+use Rattle.measure.proofs.shifting.Shifts.add.Goals as goal
 
 -- a number from its bits
 from_bits : (a : ℤ) → SFits w64 a → to_z w64 (of_z w64 a) ≡ int_wrap w64 a
@@ -26,11 +25,7 @@ told : (r : Result (Unit {0}) EntryRefusal) (t u : Entries Shift) (s q : Shift) 
 told (Ok x) t u s q same (room, more) = (room, more ∙ ap (λ (y : Shift). values t ++ y ∷ []) same)
 told (Err e) t u s q same (full, is, kept) = (full, is, ap with_table kept)
 
-pub returns : goal.returns
-returns c =
+pub returns-clause-cases : goal.returns-clause-cases
+returns-clause-cases c =
     let a = c.args.across in let b = c.args.along in
-    record {
-      cases = told c.add.result c.args.self.now.table c.add.new.self _ (shift_of a b)
-          (same_shift _ (shift_of a b) (from_bits a c.ranges.across) (from_bits b c.ranges.along)) c.add.ensures;
-      same = (itself a c.ranges.across.sfits, itself b c.ranges.along.sfits);
-    }
+    told c.add.result c.args.self.now.table c.add.new.self _ (shift_of a b) (same_shift _ (shift_of a b) (from_bits a c.ranges.across) (from_bits b c.ranges.along)) c.add.ensures

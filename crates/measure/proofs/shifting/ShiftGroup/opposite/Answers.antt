@@ -4,7 +4,7 @@ use Rattle.std.specs.Int.{int_wrap}
 use Rattle.std.proofs.lemmas.Int.{wrapping_neg_is, to_z-of_z, SFits-int_wrap}
 use Rattle.measure.specs.Shifts.{shift_opposite}
 use Rattle.measure.specs.Group.{same_shift}
-use Rattle.measure.proofs.shifting.ShiftsMeasure.opposite.Goals as goal
+use Rattle.measure.proofs.shifting.ShiftGroup.opposite.Goals as goal
 
 -- `a` goes to `wrapping_neg` by its bits, and so comes back from them
 negated : (a r : ℤ) → mag a < 2 ^ 63 → r ≡ to_z w64 ((2 ^ 64 - of_z w64 (to_z w64 (of_z w64 a))) % 2 ^ 64) → to_z w64 (of_z w64 r) ≡ int_wrap w64 (neg_ℤ a)
@@ -15,5 +15,5 @@ negated a r f e =
 
 pub returns : goal.returns
 returns c =
-    let a = c.args.a in
+    let a = c.args.self in
     same_shift _ (shift_opposite a) (negated a.across _ a.wide c.wrapping_neg.ensures) (negated a.along _ a.long c.wrapping_neg-2.ensures)
