@@ -2,11 +2,12 @@ use Rattle.std.proofs.Common.{sym, ap, ◌∙◌}
 use Rattle.chain_lists.specs.declared.Kind.TheVariants.{End}
 use Rattle.chain_lists.specs.Lists.{framed}
 use Rattle.chain_lists.proofs.Bytes.{little_8}
+use Rattle.chain_writer.proofs.Holdings.{ended}
 use Rattle.chain_writer.proofs.Splice.{puts_same}
-use Rattle.chain_writer.proofs.writing.finish.Goals as goal
+use Rattle.chain_writer.proofs.states.Writer.end.Goals as goal
 
 pub returns : goal.returns
-returns c =
-    puts_same _ _ _ _ _ _
-    (ap (framed End) (c.to_le_bytes.ensures ∙ sym (little_8 c.args.count)))
-    c.put_record-length.ensures.fits
+returns g c =
+    λ d h.
+    ended h
+    (puts_same (ap (framed End) (c.to_le_bytes.ensures ∙ sym (little_8 c.args.self.count))) c.put_record.ensures.puts)
