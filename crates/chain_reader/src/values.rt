@@ -85,10 +85,10 @@ impl ListFault {
     {
         match self {
             ListFault::Record(e) => e.spot(),
-            ListFault::OutOfOrder(spot) => spot,
-            ListFault::WrongHead(spot) => spot,
-            ListFault::WrongExchange(spot) => spot,
-            ListFault::WrongCount(spot) => spot,
+            ListFault::OutOfOrder(spot)
+            | ListFault::WrongHead(spot)
+            | ListFault::WrongExchange(spot)
+            | ListFault::WrongCount(spot) => spot,
         }
     }
 }
