@@ -6,6 +6,8 @@ ghost use Rattle.std.specs.Prelude.{◌≡◌};
 
 use chain_lists::{Spot, Swap, Total};
 use chain_records::{Record, RecordFault};
+use std::error::Error;
+use std::fmt;
 
 /// What a record says.
 #[derive(Clone, Copy, Debug, PartialEq, Eq)]
@@ -64,6 +66,22 @@ impl From<RecordFault> for ListFault {
         ListFault::Record(e)
     }
 }
+
+/// Its number, its byte, and how many exchanges stand before it.
+impl fmt::Display for ListFault {
+    fn fmt<W: fmt::Write>(&self, f: &mut fmt::Formatter<W>) -> fmt::Result {
+        let spot = self.spot();
+        write!(
+            f,
+            "refused {} byte {} after {}",
+            self.number(),
+            spot.byte,
+            spot.before
+        )
+    }
+}
+
+impl Error for ListFault {}
 
 impl ListFault {
     /// The number that this fault is known by.
