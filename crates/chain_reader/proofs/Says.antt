@@ -1,6 +1,6 @@
 -- What a record says after a beginning, by its kind.
-use Rattle.std.proofs.Common.{◌≡◌, ℕ, ◌+◌, ◌^◌, ◌<◌, ◌≤◌, true, false, eqb, List, [], ◌∷◌, ◌++◌, length, get_or, take, drop, sym, refl, ap, ◌∙◌, subst, arith}
-use Rattle.std.proofs.lemmas.List.{length-append, nil_from_length, take_all}
+use Rattle.std.proofs.Common.{◌≡◌, ℕ, ◌+◌, ◌^◌, ◌<◌, ◌≤◌, true, false, eqb, List, [], ◌∷◌, ◌++◌, length, get_or, sym, refl, ap, ◌∙◌, subst, arith}
+use Rattle.std.proofs.lemmas.List.{length-append, nil_from_length}
 use Rattle.std.proofs.lemmas.Bool.{eqb-true}
 use Rattle.labels.specs.Sets.{limit}
 use Rattle.chain_lists.specs.declared.Kind.TheVariants.{ShiftTotal, LampTotal}
@@ -10,22 +10,18 @@ use Rattle.chain_lists.specs.declared.Swap.{Swap}
 use Rattle.chain_lists.specs.declared.Total.{Total}
 use Rattle.chain_lists.specs.declared.TotalKinds.{TotalKinds}
 use Rattle.chain_lists.specs.declared.Total.TheVariants.{Shift, Lamp}
-use Rattle.chain_lists.specs.Lists.{ChainList, Lawful, Marks, is_marked, Fitting, after, count_of, end_written, framed, front_of, last_set, lawful_head, lawful_swap, little, stands, total_kind, total_written}
+use Rattle.chain_lists.specs.Lists.{ChainList, Marks, is_marked, Fitting, after, framed, last_set, lawful_swap, stands, total_kind, total_written}
 use Rattle.chain_lists.specs.Faults.{Beginning, nothing, so_far, ended}
-use Rattle.chain_lists.proofs.Growth.{lawful_begun, front_begun, last_set_more, lawful_swap_more, front_swap_more, is_marked_stands, lawful_total_more, front_total_more}
+use Rattle.chain_lists.proofs.Growth.{last_set_more, lawful_swap_more, front_swap_more, is_marked_stands, lawful_total_more, front_total_more}
 use Rattle.chain_lists.proofs.Lawful.{head_tells}
 use Rattle.chain_records.specs.Records.{exchanges_in}
 use Rattle.chain_reader.specs.declared.states.Progress.{Progress}
 use Rattle.chain_reader.specs.declared.states.Stage.{Stage}
-use Rattle.chain_reader.specs.declared.states.Stage.TheVariants.{SoFar, Ended}
-use Rattle.chain_reader.specs.declared.values.Entry.TheVariants.{Head, Exchange, Total as Summed, End}
+use Rattle.chain_reader.specs.declared.states.Stage.TheVariants.{SoFar}
+use Rattle.chain_reader.specs.declared.values.Entry.TheVariants.{Exchange, Total as Summed}
 use Rattle.chain_reader.specs.Reading.{Known, Says, StageAfter}
 
 -- ---- bodies
-
-nine : (body w : List ℕ) → length body + 2 ≡ 11 → w ≡ take 8 (drop 1 body) → body ≡ get_or body 0 0 ∷ w
-nine [] w l e = absurd (omega arith)
-nine (b ∷ bs) w l e = ap (λ (ws : List ℕ). b ∷ ws) (sym (e ∙ take_all 8 bs (omega arith)))
 
 two : (body : List ℕ) → length body + 2 ≡ 4 → body ≡ get_or body 0 0 ∷ get_or body 1 0 ∷ []
 two [] l = absurd (omega arith)
@@ -42,20 +38,6 @@ amid P {b = so_far c} is k f = f c (record { lawful = k.lawful; stage = subst (S
 amid P {b = ended c} is k f = absurd (subst (StageAfter (ended c)) is k.stage)
 
 -- ---- records
-
-pub head_says
-    : (n s : ℕ) (body : List ℕ) → length body + 2 ≡ 11
-    → n ≡ get_or body 0 0 → little 8 s ≡ take 8 (drop 1 body) → lawful_head n s ≡ true
-    → Says nothing kind.Head body (Head n s) (SoFar (record { n = n; present = s; totals = record { shift = false; lamp = false } }))
-head_says n s body l e w h =
-    record {
-      told = tt;
-      lawful = lawful_begun n s h;
-      bytes = ap (framed kind.Head) (nine body (little 8 s) l w ∙ ap (λ (m : ℕ). m ∷ little 8 s) (sym e));
-      grown = front_begun n s;
-      swaps = refl;
-      stage = (refl, refl, record { shift = refl; lamp = refl });
-    }
 
 pub exchange_says
     : (c : ChainList) (p : Progress) (x : Swap) (t : ℕ) (body : List ℕ) (at : Spot)
@@ -100,18 +82,3 @@ total_says c p t body at marks known unmarked f bytes more =
     no_more : (u : Total) → length c.swaps ≡ length c.swaps + exchanges_in (total_kind u)
     no_more (Shift a b) = omega arith
     no_more (Lamp w) = omega arith
-
-pub end_says
-    : (c : ChainList) (k : ℕ) (body : List ℕ)
-    → Lawful c → k ≡ count_of c → length body + 2 ≡ 10 → little 8 k ≡ take 8 (drop 0 body)
-    → Says (so_far c) kind.End body (End k) Ended
-end_says c k body L e l w =
-    let whole : body ≡ little 8 k = sym (w ∙ take_all 8 body (omega arith)) in
-    record {
-      told = e;
-      lawful = L;
-      bytes = ap (framed kind.End) whole;
-      grown = ap (λ (m : ℕ). front_of c ++ end_written m) (sym e);
-      swaps = omega arith;
-      stage = tt;
-    }
