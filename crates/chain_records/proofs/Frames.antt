@@ -1,12 +1,10 @@
 -- The frame of a record, told by its six bytes.
-use Rattle.std.proofs.Common.{◌≡◌, ℕ, ◌+◌, ◌-◌, ◌*◌, ◌<◌, ◌≤◌, Bool, true, false, cond, eqb, leb, List, [], ◌∷◌, ◌++◌, length, get_or, take, drop, Some, None, Option, Ok, Err, Result, subst, sym, refl, ap, ◌∙◌, arith}
+use Rattle.std.proofs.Common.{◌≡◌, ℕ, ◌+◌, ◌-◌, ◌*◌, ◌<◌, ◌≤◌, Bool, true, false, cond, eqb, leb, List, [], ◌∷◌, ◌++◌, length, get_or, take, drop, Some, None, Option, sym, refl, ap, ◌∙◌, arith}
 use Rattle.std.proofs.lemmas.Bool.{eqb-true, eqb-false, ne_eqb, cond-true, cond-false}
 use Rattle.std.proofs.lemmas.Bool.Decides.{nat_tests}
 use Rattle.std.proofs.Math.Seq.{take-add}
 use Rattle.std.specs.Bool.{then_some}
-use Rattle.std.proofs.lemmas.Option.{none-some}
-use Rattle.std.specs.Option.{MatchOption, ok_or}
-use Rattle.std.specs.Result.{MatchResult, result_ok}
+use Rattle.std.specs.Option.{MatchOption}
 use Rattle.std.proofs.lemmas.List.{length-drop, length-take-le}
 use Rattle.chain_lists.specs.declared.Kind.{Kind}
 use Rattle.chain_lists.specs.declared.Kind.TheVariants.{Head, Exchange, End, ShiftTotal, LampTotal}
@@ -95,16 +93,6 @@ kind_told xs k told byte whole long is answer = rw answer (go (eqb (stated xs) (
         let l : stated xs ≡ kind_length k = eqb-true _ _ (sym t) in
         (frame_is xs k byte long l is, omega (arith, complete_tells xs whole))
     go false t = λ b. wrong_kind b xs whole (λ j at l. let same : j ≡ k = cc in eqb-false _ _ (sym t) (l ∙ ap kind_length same))
-
--- what is known of a result that `ok` gives the value of
-pub ok_told : {T E : Type 0} (r : Result T E) (P : T → Type 0) (Q : E → Type 0) (x : T) → Some x ≡ result_ok r → MatchResult r P Q → P x
-ok_told (Ok y) P Q x is h = let same : y ≡ x = cc in subst P same h
-ok_told (Err e) P Q x is h = absurd (none-some x (sym is))
-
--- the error that `ok_or` gives where there is no value
-pub ok_or_told : {T E : Type 0} (o : Option T) (e d : E) → o ≡ None → Err d ≡ ok_or o e → d ≡ e
-ok_or_told None e d h is = cc
-ok_or_told (Some x) e d h is = absurd (none-some x (sym h))
 
 pub nothing_left : (xs : List ℕ) → eqb (length xs) 0 ≡ true → xs ≡ []
 nothing_left [] h = refl

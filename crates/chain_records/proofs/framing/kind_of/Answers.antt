@@ -4,7 +4,8 @@ use Rattle.std.specs.Int.{from_le_bytes}
 use Rattle.chain_lists.specs.Lists.{kind_numbered}
 use Rattle.chain_lists.specs.Faults.{kind_in, number_in, stated}
 use Rattle.chain_lists.proofs.Bytes.{number_2, number_4}
-use Rattle.chain_records.proofs.Frames.{kind_told, no_kind, ok_told}
+use Rattle.chain_lists.proofs.Results.{ok_told}
+use Rattle.chain_records.proofs.Frames.{kind_told, no_kind}
 use Rattle.chain_records.proofs.framing.kind_of.Goals as goal
 
 pub returns-in_err-first_chunk : goal.returns-in_err-first_chunk

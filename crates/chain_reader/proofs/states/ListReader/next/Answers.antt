@@ -6,7 +6,8 @@ use Rattle.chain_lists.specs.declared.Spot.{Spot}
 use Rattle.chain_lists.specs.Lists.{framed}
 use Rattle.chain_lists.specs.Faults.{bytes_of}
 use Rattle.chain_records.specs.Records.{left_of}
-use Rattle.chain_records.proofs.Frames.{nothing_left, ok_or_told}
+use Rattle.chain_lists.proofs.Results.{ok_or_told}
+use Rattle.chain_records.proofs.Frames.{nothing_left}
 use Rattle.chain_reader.specs.declared.values.ListFault.TheVariants.{OutOfOrder}
 use Rattle.chain_reader.specs.Reading.{Known, StageAfter, end_of, entry_written, extended}
 use Rattle.chain_reader.proofs.Runs.{no_end, refused_here, ended_well, fault_next, framed_fault, framed_some, goes_behind}

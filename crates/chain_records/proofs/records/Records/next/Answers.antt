@@ -3,11 +3,12 @@ use Rattle.std.proofs.lemmas.List.{length-drop, take_rest, drop-drop, take-appen
 use Rattle.std.proofs.lemmas.Option.{MatchOption-at_some, MatchOption-at_none}
 use Rattle.std.proofs.lemmas.Result.{err_from_is_err_and}
 use Rattle.chain_records.specs.declared.values.RecordFault.TheVariants.{Misshapen}
+use Rattle.chain_lists.proofs.Results.{ok_or_told}
 use Rattle.chain_lists.specs.declared.Spot.{Spot}
 use Rattle.chain_lists.specs.Lists.{kind_length}
 use Rattle.chain_lists.specs.Faults.{complete, record_fault}
 use Rattle.chain_records.specs.Records.{left_of}
-use Rattle.chain_records.proofs.Frames.{ok_or_told, nothing_left, some_left, cut_fault, CutRecord}
+use Rattle.chain_records.proofs.Frames.{nothing_left, some_left, cut_fault, CutRecord}
 use Rattle.chain_records.proofs.records.Records.next.Goals as goal
 
 pub returns-then-is_empty : goal.returns-then-is_empty
