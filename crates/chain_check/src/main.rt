@@ -2,7 +2,6 @@
 #![tactic(auto)]
 
 use anyhow::anyhow;
-use chain_lists::Total;
 use chain_reader::{Entry, ListReader, read};
 use intake::take_in;
 use std::io;
@@ -19,10 +18,7 @@ fn write_entry<W: Write>(out: &mut W, entry: Entry) -> io::Result<()> {
     match entry {
         Entry::Head(n, start) => writeln!(out, "head {n} {start}"),
         Entry::Exchange(swap, set) => writeln!(out, "exchange {} {} {set}", swap.high, swap.low),
-        Entry::Total(Total::Shift(across, along)) => {
-            writeln!(out, "shift total {across} {along}")
-        }
-        Entry::Total(Total::Lamp(word)) => writeln!(out, "lamp total {word}"),
+        Entry::Total(total) => writeln!(out, "{total}"),
         Entry::End(count) => writeln!(out, "end {count}"),
     }
 }
@@ -34,11 +30,10 @@ fn write_records<W: Write>(out: &mut W, file: &[u8]) -> io::Result<()> {
         let Ok(Some(part)) = reader.next() else {
             break;
         };
-        let found = &part;
-        let byte = found.record.spot.byte;
-        let length = found.record.bytes.len();
+        let byte = part.record.spot.byte;
+        let length = part.record.bytes.len();
         write!(out, "{byte} {length} ")?;
-        write_entry(out, found.entry)?;
+        write_entry(out, part.entry)?;
     }
     Ok(())
 }
@@ -49,14 +44,7 @@ fn write_verdict<W: Write>(out: &mut W, file: &[u8]) -> anyhow::Result<()> {
         writeln!(out, "accepted")?;
         return Ok(());
     };
-    let spot = fault.spot();
-    writeln!(
-        out,
-        "refused {} byte {} after {}",
-        fault.number(),
-        spot.byte,
-        spot.before
-    )?;
+    writeln!(out, "{fault}")?;
     Err(anyhow!("the file is refused"))
 }
 
@@ -66,7 +54,7 @@ fn run(rt: &HostRuntime) -> anyhow::Result<()> {
     if n > MOST_INPUT {
         return Err(anyhow!("the file is too long"));
     }
-    let file = &buffer[0..n];
+    let file = &buffer[..n];
     let mut out = BufWriter::new(rt.alloc(), rt.stdout())?;
     write_records(&mut out, file)?;
     let verdict = write_verdict(&mut out, file);

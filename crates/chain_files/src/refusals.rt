@@ -104,10 +104,9 @@ fn write_swaps<W: Write>(out: &mut W, file: &mut Open) -> io::Result<()> {
 /// Writes a file with refusals on the way, and what it is read as.
 fn write_stubborn<W: Write>(out: &mut W, buffer: &mut [u8]) -> io::Result<()> {
     writeln!(out, "room {}", buffer.len())?;
-    let Ok(begun) = begin(buffer, 3, 0b011) else {
+    let Ok(mut file) = begin(buffer, 3, 0b011) else {
         return Ok(());
     };
-    let mut file = begun;
     write_swaps(out, &mut file)?;
     let mut totals = file.total(Total::Lamp(u64::MAX));
     write!(out, "lamp total again: ")?;

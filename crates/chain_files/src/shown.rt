@@ -1,6 +1,6 @@
 //! How sets, entries and faults are printed.
 use chain_lists::Total;
-use chain_reader::{Entry, ListFault, Summary};
+use chain_reader::{Entry, Summary};
 use label_words::contains;
 use std::fmt;
 
@@ -17,37 +17,12 @@ impl fmt::Display for Shown<u64> {
         if self.0 == 0 {
             return write!(f, "none");
         }
-        for i in 0..HIGHEST {
-            let label = i + 1;
+        for label in 1..=HIGHEST {
             if contains(self.0, label) {
                 write!(f, "{label}")?;
             }
         }
         Ok(())
-    }
-}
-
-/// The number, the byte, and how many exchanges came before.
-impl fmt::Display for Shown<ListFault> {
-    fn fmt<W: fmt::Write>(&self, f: &mut fmt::Formatter<W>) -> fmt::Result {
-        let spot = self.0.spot();
-        write!(
-            f,
-            "refused {} byte {} after {}",
-            self.0.number(),
-            spot.byte,
-            spot.before
-        )
-    }
-}
-
-/// The kind, and what it holds.
-impl fmt::Display for Shown<Total> {
-    fn fmt<W: fmt::Write>(&self, f: &mut fmt::Formatter<W>) -> fmt::Result {
-        match self.0 {
-            Total::Shift(across, along) => write!(f, "shift total {across} {along}"),
-            Total::Lamp(word) => write!(f, "lamp total {word}"),
-        }
     }
 }
 
@@ -63,7 +38,7 @@ impl fmt::Display for Shown<Entry> {
                 swap.low,
                 Shown(set)
             ),
-            Entry::Total(total) => write!(f, "{}", Shown(total)),
+            Entry::Total(total) => write!(f, "{total}"),
             Entry::End(count) => write!(f, "end {count}"),
         }
     }
@@ -82,10 +57,10 @@ impl fmt::Display for Shown<Summary> {
             Shown(s.last)
         )?;
         if let Some((across, along)) = s.shift {
-            write!(f, ", {}", Shown(Total::Shift(across, along)))?;
+            write!(f, ", {}", Total::Shift(across, along))?;
         }
         if let Some(word) = s.lamp {
-            write!(f, ", {}", Shown(Total::Lamp(word)))?;
+            write!(f, ", {}", Total::Lamp(word))?;
         }
         Ok(())
     }

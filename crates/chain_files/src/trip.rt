@@ -1,6 +1,6 @@
 //! The list of a walk, written and read back.
 use crate::shown::Shown;
-use anyhow::anyhow;
+use anyhow::Context;
 use chain_lists::{Swap, Total};
 use chain_reader::{ListReader, read};
 use chain_writer::{Open, WriterRefusal, Written, begin};
@@ -60,10 +60,7 @@ fn write_list<'a>(
     lamp: Option<u64>,
     buffer: &'a mut [u8],
 ) -> Result<Written<'a>, WriterRefusal> {
-    let mut file = match begin(buffer, n, walk.look().present) {
-        Ok(file) => file,
-        Err(rejected) => return Err(rejected.why),
-    };
+    let mut file = begin(buffer, n, walk.look().present)?;
     add_exchanges(walk, &mut file)?;
     let Some(word) = lamp else {
         return Ok(file.end());
@@ -78,17 +75,15 @@ fn write_list<'a>(
 fn lamp_total(graphic: Graphic) -> anyhow::Result<u64> {
     let mut words = Words::new();
     for word in &WORDS {
-        let Ok(()) = words.add(*word) else {
-            return Err(anyhow!("a word is refused"));
-        };
+        words.add(*word).ok().context("a word is refused")?;
     }
     let mut walk = Walk::begin(graphic, Closest, words, 0, u64::MAX);
     for _ in 0..STEPS {
-        let None = walk.advance() else {
-            continue;
-        };
-        break;
+        if walk.advance().is_none() {
+            break;
+        }
     }
+    // not `..`: parts have to be taken whole
     let Parts {
         matroid: _,
         rule: _,
@@ -100,6 +95,7 @@ fn lamp_total(graphic: Graphic) -> anyhow::Result<u64> {
 
 /// Ends a walk, and gives its graph back.
 fn graph_of(walk: SurveyWalk) -> Graphic {
+    // not `..`: parts have to be taken whole
     let Parts {
         matroid,
         rule: _,
@@ -111,7 +107,15 @@ fn graph_of(walk: SurveyWalk) -> Graphic {
 
 /// The first `n` bytes, or all if there are fewer.
 pub fn front(bytes: &[u8], n: usize) -> &[u8] {
-    if n < bytes.len() { &bytes[..n] } else { bytes }
+    &bytes[..n.min(bytes.len())]
+}
+
+/// Writes what a file is read as.
+pub fn write_verdict<W: Write>(out: &mut W, file: &[u8]) -> io::Result<()> {
+    match read(file) {
+        Ok(summary) => writeln!(out, "{}", Shown(summary)),
+        Err(fault) => writeln!(out, "{fault}"),
+    }
 }
 
 /// Writes what each record of a file says, then the list in short.
@@ -120,33 +124,28 @@ pub fn write_reading<W: Write>(out: &mut W, name: &str, file: &[u8]) -> io::Resu
     for _ in 0..STEPS {
         match reader.next() {
             Ok(Some(part)) => {
-                let found = &part;
-                let byte = found.record.spot.byte;
-                let length = found.record.bytes.len();
+                let byte = part.record.spot.byte;
+                let length = part.record.bytes.len();
                 writeln!(
                     out,
                     "{name}, byte {byte}, {length} bytes: {}",
-                    Shown(found.entry)
+                    Shown(part.entry)
                 )?;
             }
             Ok(None) => break,
             Err(fault) => {
-                writeln!(out, "{name}: {}", Shown(fault))?;
+                writeln!(out, "{name}: {fault}")?;
                 break;
             }
         }
     }
-    match read(file) {
-        Ok(summary) => writeln!(out, "{name}: {}", Shown(summary)),
-        Err(fault) => writeln!(out, "{name}: {}", Shown(fault)),
-    }
+    write!(out, "{name}: ")?;
+    write_verdict(out, file)
 }
 
 /// Writes the list of a rig's walk into the buffer, and answers the length of the file.
 fn list_of(rig: Rig, totals: bool, buffer: &mut [u8]) -> anyhow::Result<usize> {
-    let Ok(begun) = walk_of(rig.text) else {
-        return Err(anyhow!("the survey is refused"));
-    };
+    let begun = walk_of(rig.text).ok().context("the survey is refused")?;
     let graphic = graph_of(begun);
     let n = graphic.size();
     let lamp = if totals {
@@ -154,19 +153,10 @@ fn list_of(rig: Rig, totals: bool, buffer: &mut [u8]) -> anyhow::Result<usize> {
     } else {
         None
     };
-    let Ok(again) = walk_of(rig.text) else {
-        return Err(anyhow!("the survey is refused"));
-    };
-    let mut walk = again;
-    let length = match write_list(&mut walk, n, lamp, buffer) {
-        Ok(written) => Some(written.length),
-        Err(_) => None,
-    };
+    let mut walk = walk_of(rig.text).ok().context("the survey is refused")?;
+    let written = write_list(&mut walk, n, lamp, buffer).ok();
     let _ = graph_of(walk);
-    match length {
-        Some(length) => Ok(length),
-        None => Err(anyhow!("the list is refused")),
-    }
+    Ok(written.context("the list is refused")?.length)
 }
 
 /// Writes what became of a rig's list, with or without totals.

@@ -1,30 +1,28 @@
 -- What is written after a lawful beginning is read as it was meant.
-use Rattle.std.proofs.Common.{◌≡◌, ℕ, ◌^◌, ◌<◌, ◌≤◌, true, false, not, List, [], ◌∷◌, ◌++◌, ℤ, pos, negsuc, refl, ap, ◌∙◌, arith, pow_mono, w64, SFits, to_z, of_z}
+use Rattle.std.proofs.Common.{◌≡◌, ℕ, ◌^◌, ◌<◌, ◌≤◌, true, false, not, List, [], ◌∷◌, ◌++◌, ℤ, refl, ap, ◌∙◌, arith, pow_mono, w64, SFits, to_z, of_z}
 use Rattle.std.specs.List.{flat_map, AllByRecursion}
 use Rattle.std.proofs.lemmas.Bool.{eq-eqb, cond-true, and_parts, not-true}
 use Rattle.std.proofs.lemmas.Bool.Decides.{nat_tests}
 use Rattle.std.proofs.lemmas.List.{append-nil, append_assoc, length-append, take_at, drop_at}
 use Rattle.std.proofs.lemmas.Int.{to_z-of_z}
+use Rattle.std.proofs.Math.Facts.{Fits-of_z}
 use Rattle.chain_lists.specs.declared.Kind.{Kind}
 use Rattle.chain_lists.specs.declared.Kind.TheVariants.{Head, Exchange, End, ShiftTotal, LampTotal}
 use Rattle.chain_lists.specs.declared.Swap.{Swap}
 use Rattle.chain_lists.specs.declared.Total.{Total}
 use Rattle.chain_lists.specs.declared.Total.TheVariants.{Shift, Lamp}
-use Rattle.chain_lists.specs.Lists.{ChainList, Lawful, Fitting, begun, with_swap, with_total, count_of, after, last_set, lawful_head, lawful_swap, lawful_swaps, total_kind, stands, once, same_kind, head_written, swap_written, total_written, end_written, front_of, little}
+use Rattle.chain_lists.specs.Lists.{ChainList, Lawful, Fitting, begun, with_swap, with_total, count_of, last_set, lawful_head, lawful_swap, lawful_swaps, total_kind, stands, once, same_kind, head_written, swap_written, total_written, end_written, front_of, little}
 use Rattle.chain_lists.specs.Faults.{Beginning, nothing, so_far, ended, LawfulBeginning, bytes_of, number_in}
 use Rattle.chain_lists.proofs.Bytes.{length_little, word_little}
 use Rattle.chain_lists.proofs.Lawful.{head_tells}
+use Rattle.chain_lists.proofs.Growth.{last_set_more}
 use Rattle.chain_laws.proofs.Scan.{Verdict, Scan, step}
 
 -- ---- one record
 
 -- a signed number is written by its 64 bits
-signed_word : (z : ℤ) → SFits w64 z → of_z w64 z < 2 ^ 64
-signed_word (pos n) f = let h = f.sfits in omega arith
-signed_word (negsuc n) f = omega arith
-
 signed_little : (z : ℤ) → SFits w64 z → to_z w64 (number_in (little 8 (of_z w64 z))) ≡ z
-signed_little z f = ap (to_z w64) (word_little (of_z w64 z) (signed_word z f)) ∙ to_z-of_z w64 z f
+signed_little z f = ap (to_z w64) (word_little (of_z w64 z) (Fits-of_z f).fits) ∙ to_z-of_z w64 z f
 
 module _ {v : Verdict} (more : List ℕ) where
   read_head : (n s : ℕ) → lawful_head n s ≡ true → Scan (so_far (begun n s)) more v → Scan nothing (head_written n s ++ more) v
@@ -57,17 +55,13 @@ module _ {v : Verdict} (more : List ℕ) where
 -- ---- a whole beginning
 
 -- exchanges one after the other; those before them are xs
-last_more : (t : ℕ) (xs : List Swap) (x : Swap) → last_set t (xs ++ x ∷ []) ≡ after (last_set t xs) x
-last_more t [] x = refl
-last_more t (y ∷ xs) x = last_more (after t y) xs x
-
 module _ {v : Verdict} (n s : ℕ) (more : List ℕ) where
   read_swaps : (xs ys : List Swap) → lawful_swaps n (last_set s xs) ys ≡ true → Scan (so_far (record { n = n; start = s; swaps = xs ++ ys; totals = [] })) more v
       → Scan (so_far (record { n = n; start = s; swaps = xs; totals = [] })) (flat_map swap_written ys ++ more) v
   read_swaps xs [] h r = rw (append-nil xs) at r
   read_swaps xs (y ∷ ys) h r =
       let p = and_parts (lawful_swap n (last_set s xs) y) _ h in
-      let k = read_swaps (xs ++ y ∷ []) ys (rw (last_more s xs y) p.1) (rw (append_assoc xs (y ∷ []) ys) r) in
+      let k = read_swaps (xs ++ y ∷ []) ys (rw (last_set_more s xs y) p.1) (rw (append_assoc xs (y ∷ []) ys) r) in
       rw (append_assoc (swap_written y) (flat_map swap_written ys) more)
       (read_swap (flat_map swap_written ys ++ more) (record { n = n; start = s; swaps = xs; totals = [] }) y refl p.0 k)
 

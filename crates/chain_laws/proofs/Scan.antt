@@ -1,6 +1,7 @@
 -- A file read record by record: it has one verdict.
 use Rattle.std.proofs.Common.{◌≡◌, ℕ, ◌+◌, true, cond, List, [], ◌∷◌, ◌++◌, length, get_or, take, drop, Some, None, Option, sym, refl, ap, ◌∙◌, arith, w64, to_z}
 use Rattle.std.proofs.lemmas.Bool.{eq-eqb, false≢true}
+use Rattle.std.proofs.lemmas.Option.{none-some}
 use Rattle.chain_lists.specs.declared.Kind.{Kind}
 use Rattle.chain_lists.specs.declared.Kind.TheVariants.{Head, Exchange, End, ShiftTotal, LampTotal}
 use Rattle.chain_lists.specs.declared.Total.TheVariants.{Shift, Lamp}
@@ -38,16 +39,13 @@ pub data Scan : Beginning → List ℕ → Verdict → Type 0 where
   goes : {b : Beginning} {x : ℕ} {xs : List ℕ} {v : Verdict} → fault_after b (x ∷ xs) ≡ None
       → Scan (next b (kind_in (x ∷ xs)) (body_in (x ∷ xs))) (drop (4 + stated (x ∷ xs)) (x ∷ xs)) v → Scan b (x ∷ xs) v
 
-none_some : {f : Fault} → None ≡ Some f → ⊥
-none_some e = let z : ◌≡◌ {A = ℕ} 0 1 = cc in omega arith
-
 pub one_verdict : {b : Beginning} {rest : List ℕ} {v w : Verdict} → Scan b rest v → Scan b rest w → v ≡ w
 one_verdict (stops e) (stops e') = cc
-one_verdict (stops e) ends = absurd (none_some e)
-one_verdict (stops e) (goes e' s) = absurd (none_some (sym e' ∙ e))
-one_verdict ends (stops e) = absurd (none_some e)
+one_verdict (stops e) ends = absurd (none-some _ e)
+one_verdict (stops e) (goes e' s) = absurd (none-some _ (sym e' ∙ e))
+one_verdict ends (stops e) = absurd (none-some _ e)
 one_verdict ends ends = refl
-one_verdict (goes e s) (stops e') = absurd (none_some (sym e ∙ e'))
+one_verdict (goes e s) (stops e') = absurd (none-some _ (sym e ∙ e'))
 one_verdict (goes e s) (goes e' s') = one_verdict s s'
 
 -- ---- a record that is in order is read

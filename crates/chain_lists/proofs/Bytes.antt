@@ -1,5 +1,6 @@
 -- Numbers as bytes, and records cut out of what is left of a file.
-use Rattle.std.proofs.Common.{◌≡◌, ℕ, zero, suc, ◌+◌, ◌-◌, ◌*◌, ◌/◌, ◌%◌, ◌^◌, ◌<◌, true, List, [], ◌∷◌, ◌++◌, length, take, drop, Some, refl, ap, ◌∙◌, arith}
+use Rattle.std.proofs.Common.{◌≡◌, ℕ, zero, suc, ◌+◌, ◌-◌, ◌*◌, ◌/◌, ◌%◌, ◌^◌, ◌<◌, ◌≤◌, true, List, [], ◌∷◌, ◌++◌, length, take, drop, Some, refl, ap, ◌∙◌, arith}
+use Rattle.std.specs.Int.{w16, w32, w64, from_le_bytes}
 use Rattle.std.specs.List.{AllByRecursion}
 use Rattle.std.proofs.lemmas.List.{length-append, take_at, drop_at}
 use Rattle.std.proofs.lemmas.Bool.Decides.{nat_tests}
@@ -56,6 +57,30 @@ little_8 x =
     let e : x / 1099511627776 / 256 ≡ x / 281474976710656 = omega arith in
     let f : x / 281474976710656 / 256 ≡ x / 72057594037927936 = omega arith in
     rw (a, b, c, d, e, f)
+
+-- as `from_le_bytes` reads them
+pub number_2 : (xs : List ℕ) → 2 ≤ length xs → from_le_bytes w16 (take 2 xs) ≡ number_in (take 2 xs)
+number_2 [] h = absurd (omega arith)
+number_2 (a ∷ []) h = absurd (omega arith)
+number_2 (a ∷ b ∷ xs) h = omega arith
+
+pub number_4 : (xs : List ℕ) → 4 ≤ length xs → from_le_bytes w32 (take 4 xs) ≡ number_in (take 4 xs)
+number_4 [] h = absurd (omega arith)
+number_4 (a ∷ []) h = absurd (omega arith)
+number_4 (a ∷ b ∷ []) h = absurd (omega arith)
+number_4 (a ∷ b ∷ c ∷ []) h = absurd (omega arith)
+number_4 (a ∷ b ∷ c ∷ d ∷ xs) h = omega arith
+
+pub number_8 : (xs : List ℕ) → 8 ≤ length xs → from_le_bytes w64 (take 8 xs) ≡ number_in (take 8 xs)
+number_8 [] h = absurd (omega arith)
+number_8 (a ∷ []) h = absurd (omega arith)
+number_8 (a ∷ b ∷ []) h = absurd (omega arith)
+number_8 (a ∷ b ∷ c ∷ []) h = absurd (omega arith)
+number_8 (a ∷ b ∷ c ∷ d ∷ []) h = absurd (omega arith)
+number_8 (a ∷ b ∷ c ∷ d ∷ e ∷ []) h = absurd (omega arith)
+number_8 (a ∷ b ∷ c ∷ d ∷ e ∷ f ∷ []) h = absurd (omega arith)
+number_8 (a ∷ b ∷ c ∷ d ∷ e ∷ f ∷ g ∷ []) h = absurd (omega arith)
+number_8 (a ∷ b ∷ c ∷ d ∷ e ∷ f ∷ g ∷ i ∷ xs) h = omega arith
 
 -- ---- a record at the front
 

@@ -1,14 +1,18 @@
 -- Lists that grow by an exchange or a total: what stays lawful, and the bytes that are added.
-use Rattle.std.proofs.Common.{◌≡◌, ℕ, ◌+◌, ◌*◌, ◌^◌, ◌<◌, ◌≤◌, Bool, true, false, cond, not, List, [], ◌∷◌, ◌++◌, length, ℤ, sym, refl, ap, ◌∙◌, arith}
+use Rattle.std.proofs.Common.{◌≡◌, ℕ, ◌+◌, ◌*◌, ◌^◌, ◌<◌, ◌≤◌, ◌==◌, true, false, cond, not, List, [], ◌∷◌, ◌++◌, length, ℤ, sym, refl, ap, ◌∙◌, arith}
 use Rattle.std.specs.List.{flat_map}
 use Rattle.std.proofs.lemmas.List.{append_assoc, append-nil, length-append, length_push}
 use Rattle.std.proofs.ByRecursion.{All-push}
 use Rattle.std.proofs.lemmas.Bool.{and_parts, and_from}
+use Rattle.std.proofs.lemmas.Bool.Decides.{nat_tests}
+use Rattle.std.proofs.lemmas.Grind.{flat_map-append}
 use Rattle.chain_lists.specs.declared.Kind.{Kind}
 use Rattle.chain_lists.specs.declared.Swap.{Swap}
 use Rattle.chain_lists.specs.declared.Total.{Total}
 use Rattle.chain_lists.specs.declared.Total.TheVariants.{Shift, Lamp}
-use Rattle.chain_lists.specs.Lists.{ChainList, Lawful, Fitting, little, begun, with_swap, with_total, after, last_set, count_of, lawful_head, lawful_swap, lawful_swaps, total_kind, same_kind, stands, once, head_written, swap_written, total_written, end_written, front_of}
+use Rattle.chain_lists.specs.declared.TotalKinds.{TotalKinds}
+use Rattle.chain_lists.specs.declared.Kind.TheVariants.{ShiftTotal, LampTotal}
+use Rattle.chain_lists.specs.Lists.{ChainList, Marks, is_marked, Lawful, Fitting, little, begun, with_swap, with_total, after, last_set, count_of, lawful_head, lawful_swap, lawful_swaps, total_kind, same_kind, stands, once, head_written, swap_written, total_written, end_written, front_of}
 
 -- ---- how long records are
 
@@ -55,8 +59,7 @@ lawful_swaps_more n t (y ∷ ys) x h k =
     and_from (lawful_swap n t y) (lawful_swaps n (after t y) (ys ++ x ∷ [])) p.0 (lawful_swaps_more n (after t y) ys x p.1 k)
 
 joined_one : {X : Type 0} (f : X → List ℕ) (xs : List X) (x : X) → flat_map f (xs ++ x ∷ []) ≡ flat_map f xs ++ f x
-joined_one f [] x = append-nil (f x)
-joined_one f (y ∷ ys) x = ap (λ (q : List ℕ). f y ++ q) (joined_one f ys x) ∙ sym (append_assoc (f y) (flat_map f ys) (f x))
+joined_one f xs x = flat_map-append f xs (x ∷ []) ∙ ap (λ (q : List ℕ). flat_map f xs ++ q) (append-nil (f x))
 
 pub count_swap_more : (c : ChainList) (x : Swap) → count_of (with_swap c x) ≡ count_of c + 1
 count_swap_more c x = ap (λ (k : ℕ). k + 1) (length_push c.swaps x)
@@ -88,42 +91,36 @@ front_swap_more c x none =
 
 -- ---- a total more
 
-either_order : (a b d : Bool) → cond a true (cond b true d) ≡ cond b true (cond a true d)
-either_order true true d = refl
-either_order true false d = refl
-either_order false true d = refl
-either_order false false d = refl
-
-same_kind_sym : (k l : Kind) → same_kind k l ≡ same_kind l k
-same_kind_sym k l = grind arith
-
-neither_tell : (a b : Bool) → cond a true b ≡ false → (a ≡ false) × (b ≡ false)
-neither_tell true true h = (h, h)
-neither_tell true false h = (h, refl)
-neither_tell false b h = (refl, h)
-
-neither : (a b : Bool) → a ≡ false → not b ≡ true → not (cond a true b) ≡ true
-neither true true h k = k
-neither true false h k = sym h
-neither false b h k = k
-
 pub stands_more
     : (k : Kind) (ts : List Total) (t : Total)
     → stands k (ts ++ t ∷ []) ≡ cond (same_kind (total_kind t) k) true (stands k ts)
 stands_more k [] t = refl
-stands_more k (u ∷ us) t =
-    ap (cond (same_kind (total_kind u) k) true) (stands_more k us t)
-    ∙ either_order (same_kind (total_kind u) k) (same_kind (total_kind t) k) (stands k us)
+stands_more k (u ∷ us) t = let e = stands_more k us t in grind arith
 
 once_more : (ts : List Total) (t : Total) → once ts ≡ true → stands (total_kind t) ts ≡ false → once (ts ++ t ∷ []) ≡ true
 once_more [] t h k = refl
 once_more (u ∷ us) t h k =
     let p = and_parts (not (stands (total_kind u) us)) (once us) h in
-    let q = neither_tell (same_kind (total_kind u) (total_kind t)) (stands (total_kind t) us) k in
-    let other : same_kind (total_kind t) (total_kind u) ≡ false = same_kind_sym (total_kind t) (total_kind u) ∙ q.0 in
-    let apart : not (stands (total_kind u) (us ++ t ∷ [])) ≡ true =
-    ap not (stands_more (total_kind u) us t) ∙ neither (same_kind (total_kind t) (total_kind u)) (stands (total_kind u) us) other p.0 in
-    and_from (not (stands (total_kind u) (us ++ t ∷ []))) (once (us ++ t ∷ [])) apart (once_more us t p.1 q.1)
+    let e = stands_more (total_kind u) us t in
+    let later : once (us ++ t ∷ []) ≡ true = once_more us t p.1 (grind (arith, nat_tests)) in
+    grind (arith, nat_tests)
+
+-- the marks after a total more
+pub marks_shift : (marks : TotalKinds) (ts : List Total) (x y : ℤ) → Marks marks ts → Marks (record { shift = true; lamp = marks.lamp }) (ts ++ Shift x y ∷ [])
+marks_shift marks ts x y m = record { shift = sym (stands_more ShiftTotal ts (Shift x y)); lamp = m.lamp ∙ sym (stands_more LampTotal ts (Shift x y)) }
+
+pub marks_lamp : (marks : TotalKinds) (ts : List Total) (w : ℕ) → Marks marks ts → Marks (record { shift = marks.shift; lamp = true }) (ts ++ Lamp w ∷ [])
+marks_lamp marks ts w m = record { shift = m.shift ∙ sym (stands_more ShiftTotal ts (Lamp w)); lamp = sym (stands_more LampTotal ts (Lamp w)) }
+
+-- where no shift total is marked, the mark of the lamp total says whether there is a total
+pub marks_none : (marks : TotalKinds) (ts : List Total) → not marks.shift ≡ true → Marks marks ts → not marks.lamp ≡ (length ts == 0)
+marks_none marks [] h m = ap not m.lamp
+marks_none marks (Shift x y ∷ ts) h m = let s : marks.shift ≡ true = m.shift in grind (arith, nat_tests)
+marks_none marks (Lamp w ∷ ts) h m = let l : marks.lamp ≡ true = m.lamp in grind (arith, nat_tests)
+
+pub is_marked_stands : (marks : TotalKinds) (ts : List Total) (t : Total) → Marks marks ts → is_marked marks t ≡ stands (total_kind t) ts
+is_marked_stands marks ts (Shift x y) m = m.shift
+is_marked_stands marks ts (Lamp w) m = m.lamp
 
 pub lawful_total_more
     : (c : ChainList) (t : Total)

@@ -1,3 +1,4 @@
 pub mod Lawful
 pub mod Bytes
 pub mod Growth
+pub mod Results

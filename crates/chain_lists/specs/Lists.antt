@@ -9,6 +9,7 @@ use Rattle.chain_lists.specs.declared.Kind.TheVariants.{Head, Exchange, End, Shi
 use Rattle.chain_lists.specs.declared.Swap.{Swap}
 use Rattle.chain_lists.specs.declared.Total.{Total}
 use Rattle.chain_lists.specs.declared.Total.TheVariants.{Shift, Lamp}
+use Rattle.chain_lists.specs.declared.TotalKinds.{TotalKinds}
 
 -- ---- records
 
@@ -111,6 +112,16 @@ same_kind k l = kind_number k == kind_number l
 abbrev pub stands : Kind → List Total → Bool
 stands k [] = false
 stands k (t ∷ ts) = cond (same_kind (total_kind t) k) true (stands k ts)
+
+-- the marks say of which kinds totals are among them
+pub record Marks (marks : TotalKinds) (ts : List Total) : Type 0 where
+  pub shift : marks.shift ≡ stands ShiftTotal ts
+  pub lamp : marks.lamp ≡ stands LampTotal ts
+
+-- the mark of this total's kind
+abbrev pub is_marked : TotalKinds → Total → Bool
+is_marked marks (Shift across along) = marks.shift
+is_marked marks (Lamp word) = marks.lamp
 
 -- at most one total of each kind
 abbrev pub once : List Total → Bool

@@ -1,13 +1,15 @@
 //! What a chain file is made of, and what is lawful in it.
 #![tactic(auto)]
 
-ghost use Rattle.chain_lists.specs.Lists.{after, kind_length, kind_number, kind_numbered, lawful_head, lawful_swap, total_kind};
-ghost use Rattle.std.specs.Prelude.{◌≡◌, ℕ, ◌≤◌, true, bit_or, bit_xor};
+ghost use Rattle.chain_lists.specs.Lists.{Marks, after, is_marked, kind_length, kind_number, kind_numbered, lawful_head, lawful_swap, total_kind};
+ghost use Rattle.std.specs.Prelude.{◌≡◌, ℕ, ◌≤◌, List, true, [], ◌∷◌, ◌++◌, None, Some, MatchResult, bit_or, bit_xor, length, ◌==◌};
 ghost use Rattle.label_words.specs.Words.{word_of};
 ghost use Rattle.labels.specs.Sets.{limit};
 
 use label_words::{contains, full_to, swapped};
 use labels::LIMIT;
+use std::error::Error;
+use std::fmt;
 
 /// What a record of a chain file says.
 #[derive(Clone, Copy, Debug, PartialEq, Eq)]
@@ -18,6 +20,10 @@ pub enum Kind {
     ShiftTotal,
     LampTotal,
 }
+
+/// A number that no kind of record has.
+#[derive(Clone, Copy, Debug, PartialEq, Eq)]
+pub struct UnknownKind(pub u16);
 
 /// Two labels that change sides, the higher one and the lower one.
 #[derive(Clone, Copy, Debug, PartialEq, Eq)]
@@ -35,6 +41,13 @@ pub enum Total {
     Lamp(u64),
 }
 
+/// Which kinds of totals a list has.
+#[derive(Clone, Copy, Debug, PartialEq, Eq)]
+pub struct TotalKinds {
+    pub shift: bool,
+    pub lamp: bool,
+}
+
 /// Where a record of a file begins, and how many exchanges stand before it.
 #[derive(Clone, Copy, Debug, PartialEq, Eq)]
 pub struct Spot {
@@ -42,21 +55,33 @@ pub struct Spot {
     pub before: u64,
 }
 
-impl Kind {
-    /// The kind that has this number.
-    pub fn numbered(number: u16) -> Option<Kind>
-        ensures { result ≡ kind_numbered number }
-    {
+/// The kind that has this number.
+impl TryFrom<u16> for Kind {
+    type Error = UnknownKind;
+
+    ghost try_from_gives = { λ number r. MatchResult r (λ kind. kind_numbered number ≡ Some kind) (λ e. (kind_numbered number ≡ None) × (e.0 ≡ number)) };
+
+    fn try_from(number: u16) -> Result<Self, UnknownKind> {
         match number {
-            1 => Some(Kind::Head),
-            2 => Some(Kind::Exchange),
-            3 => Some(Kind::End),
-            4 => Some(Kind::ShiftTotal),
-            5 => Some(Kind::LampTotal),
-            _ => None,
+            1 => Ok(Kind::Head),
+            2 => Ok(Kind::Exchange),
+            3 => Ok(Kind::End),
+            4 => Ok(Kind::ShiftTotal),
+            5 => Ok(Kind::LampTotal),
+            _ => Err(UnknownKind(number)),
         }
     }
+}
 
+impl fmt::Display for UnknownKind {
+    fn fmt<W: fmt::Write>(&self, f: &mut fmt::Formatter<W>) -> fmt::Result {
+        write!(f, "no kind of record has the number {}", self.0)
+    }
+}
+
+impl Error for UnknownKind {}
+
+impl Kind {
     /// The number that stands in a record of this kind.
     pub fn number(self) -> u16
         ensures { result ≡ kind_number self }
@@ -92,6 +117,53 @@ impl Total {
         match self {
             Total::Shift(_, _) => Kind::ShiftTotal,
             Total::Lamp(_) => Kind::LampTotal,
+        }
+    }
+}
+
+impl fmt::Display for Total {
+    fn fmt<W: fmt::Write>(&self, f: &mut fmt::Formatter<W>) -> fmt::Result {
+        match *self {
+            Total::Shift(across, along) => write!(f, "shift total {across} {along}"),
+            Total::Lamp(word) => write!(f, "lamp total {word}"),
+        }
+    }
+}
+
+impl TotalKinds {
+    /// Those of a list that has no total.
+    pub const EMPTY: TotalKinds = TotalKinds {
+        shift: false,
+        lamp: false,
+    };
+
+    /// Whether there is no total.
+    pub fn is_empty(self) -> bool
+        ensures { (totals : List Total) → Marks self totals → result ≡ (length totals == 0) }
+    {
+        !self.shift && !self.lamp
+    }
+
+    /// Whether there is a total of this kind.
+    pub fn has(self, total: Total) -> bool
+        ensures { result ≡ is_marked self total }
+    {
+        match total {
+            Total::Shift(_, _) => self.shift,
+            Total::Lamp(_) => self.lamp,
+        }
+    }
+
+    /// Those of the list with a total more.
+    pub fn with(self, total: Total) -> TotalKinds
+        ensures { (totals : List Total) → Marks self totals → Marks result (totals ++ total ∷ []) }
+    {
+        match total {
+            Total::Shift(_, _) => TotalKinds {
+                shift: true,
+                ..self
+            },
+            Total::Lamp(_) => TotalKinds { lamp: true, ..self },
         }
     }
 }

@@ -34,12 +34,6 @@ ended_well file (so_far c) rest L st e z = absurd st
 ended_well file (ended c) rest L st e z =
     record { lawful = L; written = e ∙ ap (λ (ys : List ℕ). bytes_of (ended c) ++ ys) z ∙ append-nil (bytes_of (ended c)) }
 
-pub more_after_end : (b : Beginning) (rest : List ℕ) → StageAfter b Ended → (rest ≡ [] → ⊥) → fault_after b rest ≡ Some out_of_order
-more_after_end nothing rest st z = absurd st
-more_after_end (so_far c) rest st z = absurd st
-more_after_end (ended c) [] st z = absurd (z refl)
-more_after_end (ended c) (x ∷ xs) st z = refl
-
 -- before the end
 pub no_end : (b : Beginning) (rest : List ℕ) (s : Stage) → StageAfter b s → (s ≡ Ended → ⊥) → rest ≡ [] → fault_after b rest ≡ Some out_of_order
 no_end b rest s st n z = ap (fault_after b) z ∙ go b s st n

@@ -1,11 +1,10 @@
 -- The code's values in the words of chain files, and what a reader has read.
 use Rattle.std.specs.Prelude.{◌≡◌, ℕ, ◌+◌, false, cond, List, [], ◌∷◌, ◌++◌, length, ℤ, Some, None, Ok, Err, Option, Result}
 use Rattle.chain_lists.specs.declared.Kind.{Kind}
-use Rattle.chain_lists.specs.declared.Kind.TheVariants.{ShiftTotal, LampTotal}
 use Rattle.chain_lists.specs.declared.Spot.{Spot}
 use Rattle.chain_lists.specs.declared.Total.{Total as ListTotal}
 use Rattle.chain_lists.specs.declared.Total.TheVariants.{Shift, Lamp}
-use Rattle.chain_lists.specs.Lists.{ChainList, Holds, after, begun, count_of, end_written, framed, head_written, last_set, stands, swap_written, total_kind, total_written, with_swap, with_total}
+use Rattle.chain_lists.specs.Lists.{ChainList, Holds, Marks, after, begun, count_of, end_written, framed, head_written, last_set, stands, swap_written, total_kind, total_written, with_swap, with_total}
 use Rattle.chain_lists.specs.Faults.{Beginning, nothing, so_far, ended, LawfulBeginning, bytes_of, swaps_in, Fault, out_of_order, wrong_head, wrong_exchange, wrong_count, due, body_fault}
 use Rattle.chain_records.specs.Records.{exchanges_in, file_of, left_of, place_of}
 use Rattle.chain_records.specs.Records as records
@@ -77,8 +76,7 @@ StageAfter (so_far c) Nothing = ⊥
 StageAfter (so_far c) (SoFar p) =
     (p.n ≡ c.n)
     × (p.present ≡ last_set c.start c.swaps)
-    × (p.shift ≡ stands ShiftTotal c.totals)
-    × (p.lamp ≡ stands LampTotal c.totals)
+    × Marks p.totals c.totals
 StageAfter (so_far c) Ended = ⊥
 StageAfter (ended c) Nothing = ⊥
 StageAfter (ended c) (SoFar p) = ⊥

@@ -41,9 +41,7 @@ impl<'a> ListReader<'a> {
             };
         }
         let mut ahead = self.records;
-        let Some(record) = ahead.next()? else {
-            return Err(ListFault::OutOfOrder(ahead.spot()));
-        };
+        let record = ahead.next()?.ok_or(ListFault::OutOfOrder(ahead.spot()))?;
         let step = judge(self.stage, record)?;
         self.records = ahead;
         self.stage = step.stage;

@@ -1,4 +1,5 @@
 //! The state of a reader of lists.
+use chain_lists::TotalKinds;
 use chain_records::Records;
 
 /// What was read so far of a list.
@@ -6,8 +7,7 @@ use chain_records::Records;
 pub struct Progress {
     pub(crate) n: u8,
     pub(crate) present: u64,
-    pub(crate) shift: bool,
-    pub(crate) lamp: bool,
+    pub(crate) totals: TotalKinds,
 }
 
 /// How far a reader is.

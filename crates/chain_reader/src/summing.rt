@@ -3,7 +3,6 @@ ghost use Rattle.chain_laws.specs.Laws.{LawOfFiles};
 ghost use Rattle.chain_lists.specs.Faults.{Beginning, Refused};
 ghost use Rattle.chain_lists.specs.Lists.{ChainList, Holds};
 ghost use Rattle.chain_reader.specs.Reading.{Summarises, SummaryAfter, Told, extended, fault_of, spot_of};
-ghost use Rattle.chain_reader.specs.declared.values.Entry.TheVariants.{Total as OfTotal};
 ghost use Rattle.std.specs.Result.{MatchResult};
 
 use crate::states::ListReader;
@@ -19,22 +18,6 @@ const BLANK: Summary = Summary {
     lamp: None,
 };
 
-// The summary with a total.
-fn with_total(s: Summary, total: Total) -> Summary
-    ensures { (b : Beginning) → SummaryAfter b s → Told b (OfTotal total) → SummaryAfter (extended b (OfTotal total)) result }
-{
-    match total {
-        Total::Shift(across, along) => Summary {
-            shift: Some((across, along)),
-            ..s
-        },
-        Total::Lamp(word) => Summary {
-            lamp: Some(word),
-            ..s
-        },
-    }
-}
-
 // The summary with what a record says.
 fn with(s: Summary, entry: Entry) -> Summary
     ensures { (b : Beginning) → SummaryAfter b s → Told b entry → SummaryAfter (extended b entry) result }
@@ -47,7 +30,14 @@ fn with(s: Summary, entry: Entry) -> Summary
             ..s
         },
         Entry::Exchange(_, set) => Summary { last: set, ..s },
-        Entry::Total(total) => with_total(s, total),
+        Entry::Total(Total::Shift(across, along)) => Summary {
+            shift: Some((across, along)),
+            ..s
+        },
+        Entry::Total(Total::Lamp(word)) => Summary {
+            lamp: Some(word),
+            ..s
+        },
         Entry::End(count) => Summary { count, ..s },
     }
 }

@@ -6,6 +6,8 @@ ghost use Rattle.std.specs.Prelude.{◌≡◌};
 
 use chain_lists::{Spot, Swap, Total};
 use chain_records::{Record, RecordFault};
+use std::error::Error;
+use std::fmt;
 
 /// What a record says.
 #[derive(Clone, Copy, Debug, PartialEq, Eq)]
@@ -65,6 +67,22 @@ impl From<RecordFault> for ListFault {
     }
 }
 
+/// Its number, its byte, and how many exchanges stand before it.
+impl fmt::Display for ListFault {
+    fn fmt<W: fmt::Write>(&self, f: &mut fmt::Formatter<W>) -> fmt::Result {
+        let spot = self.spot();
+        write!(
+            f,
+            "refused {} byte {} after {}",
+            self.number(),
+            spot.byte,
+            spot.before
+        )
+    }
+}
+
+impl Error for ListFault {}
+
 impl ListFault {
     /// The number that this fault is known by.
     pub fn number(self) -> u8
@@ -85,10 +103,10 @@ impl ListFault {
     {
         match self {
             ListFault::Record(e) => e.spot(),
-            ListFault::OutOfOrder(spot) => spot,
-            ListFault::WrongHead(spot) => spot,
-            ListFault::WrongExchange(spot) => spot,
-            ListFault::WrongCount(spot) => spot,
+            ListFault::OutOfOrder(spot)
+            | ListFault::WrongHead(spot)
+            | ListFault::WrongExchange(spot)
+            | ListFault::WrongCount(spot) => spot,
         }
     }
 }

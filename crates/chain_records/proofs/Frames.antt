@@ -1,25 +1,25 @@
 -- The frame of a record, told by its six bytes.
-use Rattle.std.proofs.Common.{◌≡◌, ℕ, zero, suc, ◌+◌, ◌-◌, ◌*◌, ◌<◌, ◌≤◌, Bool, true, false, cond, eqb, leb, List, [], ◌∷◌, ◌++◌, length, get_or, take, drop, Some, sym, refl, ap, ◌∙◌, arith}
-use Rattle.std.proofs.lemmas.Bool.{eqb-true, eqb-false}
+use Rattle.std.proofs.Common.{◌≡◌, ℕ, ◌+◌, ◌-◌, ◌*◌, ◌<◌, ◌≤◌, Bool, true, false, cond, eqb, leb, List, [], ◌∷◌, ◌++◌, length, get_or, take, drop, Some, None, Option, sym, refl, ap, ◌∙◌, arith}
+use Rattle.std.proofs.lemmas.Bool.{eqb-true, eqb-false, ne_eqb, cond-true, cond-false}
+use Rattle.std.proofs.lemmas.Bool.Decides.{nat_tests}
+use Rattle.std.proofs.Math.Seq.{take-add}
+use Rattle.std.specs.Bool.{then_some}
+use Rattle.std.specs.Option.{MatchOption}
 use Rattle.std.proofs.lemmas.List.{length-drop, length-take-le}
 use Rattle.chain_lists.specs.declared.Kind.{Kind}
 use Rattle.chain_lists.specs.declared.Kind.TheVariants.{Head, Exchange, End, ShiftTotal, LampTotal}
 use Rattle.chain_lists.specs.Lists.{little, framed, kind_number, kind_length, kind_numbered}
-use Rattle.chain_records.specs.Records.{exchanges_in}
-use Rattle.chain_lists.specs.Faults.{Beginning, stated, kind_in, complete, cut_off, kind_fault, record_fault}
-
-pub at_end : (xs : List ℕ) (at : ℕ) → at ≤ length xs → eqb at (length xs) ≡ eqb (length (drop at xs)) 0
-at_end xs at h = grind (arith, length-drop)
+use Rattle.chain_lists.specs.Faults.{Beginning, stated, kind_in, complete, cut_off, misshapen, kind_fault, record_fault}
 
 pub complete_tells : (xs : List ℕ) → complete xs ≡ true → (4 ≤ length xs) × (4 + stated xs ≤ length xs)
 unfolding complete
 complete_tells xs h = grind arith
 
-pub complete_is : (xs : List ℕ) → 4 ≤ length xs → leb (stated xs) (length xs - 4) ≡ complete xs
+pub complete_is : (xs : List ℕ) (behind : ℕ) → behind + 4 ≡ length xs → leb (stated xs) behind ≡ complete xs
 unfolding complete
-complete_is xs h = grind arith
+complete_is xs behind h = grind (arith, nat_tests)
 
-pub short_is : (xs : List ℕ) → length xs < 4 → leb 4 (length xs) ≡ complete xs
+pub short_is : (xs : List ℕ) → length xs < 4 → complete xs ≡ false
 unfolding complete
 short_is xs h = grind arith
 
@@ -65,11 +65,34 @@ frame_is (a ∷ b ∷ c ∷ d ∷ e ∷ f ∷ xs) k byte long length-is kind-is 
     let z : a ∷ b ∷ c ∷ d ∷ e ∷ f ∷ [] ≡ kind_length k ∷ 0 ∷ 0 ∷ 0 ∷ kind_number k ∷ 0 ∷ [] = cc in
     z ∙ sym (frame_bytes k)
 
-pub few_exchanges : (k : Kind) → exchanges_in k ≤ kind_length k
-few_exchanges k = grind arith
-
-pub kind_long : (k : Kind) → 2 ≤ kind_length k
+kind_long : (k : Kind) → 2 ≤ kind_length k
 kind_long k = grind arith
+
+-- a record that is all there, but has no kind with its length
+wrong_kind : (b : Beginning) (xs : List ℕ) → complete xs ≡ true
+    → ((k : Kind) → kind_in xs ≡ Some k → stated xs ≡ kind_length k → ⊥) → record_fault b xs ≡ Some misshapen
+wrong_kind b xs whole none = cond-true _ _ _ whole ∙ go (kind_in xs) none
+  where
+    go : (o : Option Kind) → ((k : Kind) → o ≡ Some k → stated xs ≡ kind_length k → ⊥) → kind_fault b o xs ≡ Some misshapen
+    go None h = refl
+    go (Some k) h = cond-false _ _ _ (ne_eqb _ _ (h k refl))
+
+-- a length that has no room for a kind is that of no kind
+pub no_kind : (b : Beginning) (xs : List ℕ) → complete xs ≡ true → length xs < 6 → record_fault b xs ≡ Some misshapen
+no_kind b xs whole short = wrong_kind b xs whole (λ k is l. omega (arith, complete_tells xs whole, kind_long k))
+
+pub kind_told
+    : (xs : List ℕ) (k : Kind) (told : Option Kind) → ((i : ℕ) → get_or xs i 0 < 256) → complete xs ≡ true → 6 ≤ length xs
+    → kind_in xs ≡ Some k → told ≡ then_some (eqb (stated xs) (kind_length k)) k
+    → MatchOption told ((b : Beginning) → record_fault b xs ≡ Some misshapen) (λ k. (take 6 xs ≡ framed k []) × (4 + kind_length k ≤ length xs))
+kind_told xs k told byte whole long is answer = rw answer (go (eqb (stated xs) (kind_length k)) refl)
+  where
+    go : (t : Bool) → t ≡ eqb (stated xs) (kind_length k)
+        → MatchOption (then_some t k) ((b : Beginning) → record_fault b xs ≡ Some misshapen) (λ k. (take 6 xs ≡ framed k []) × (4 + kind_length k ≤ length xs))
+    go true t =
+        let l : stated xs ≡ kind_length k = eqb-true _ _ (sym t) in
+        (frame_is xs k byte long l is, omega (arith, complete_tells xs whole))
+    go false t = λ b. wrong_kind b xs whole (λ j at l. let same : j ≡ k = cc in eqb-false _ _ (sym t) (l ∙ ap kind_length same))
 
 pub nothing_left : (xs : List ℕ) → eqb (length xs) 0 ≡ true → xs ≡ []
 nothing_left [] h = refl
@@ -89,17 +112,6 @@ framed_body End body = refl
 framed_body ShiftTotal body = refl
 framed_body LampTotal body = refl
 
-take_none : (k : ℕ) → take {A = ℕ} k [] ≡ []
-take_none zero = refl
-take_none (suc k) = refl
-
-take_sum : (m n : ℕ) (xs : List ℕ) → take (m + n) xs ≡ take m xs ++ take n (drop m xs)
-take_sum zero n xs = ap (λ (k : ℕ). take k xs) (omega arith)
-take_sum (suc m) n [] = take_none (suc m + n) ∙ sym (take_none n)
-take_sum (suc m) n (x ∷ xs) =
-    let more : suc m + n ≡ suc (m + n) = omega arith in
-    ap (λ (k : ℕ). take k (x ∷ xs)) more ∙ ap (λ (l : List ℕ). x ∷ l) (take_sum m n xs)
-
 -- the record that begins with the frame of k, whose length is m
 pub CutRecord
     : (xs : List ℕ) (k : Kind) (m : ℕ) → m ≡ kind_length k → take 6 xs ≡ framed k [] → 4 + kind_length k ≤ length xs
@@ -108,5 +120,5 @@ CutRecord xs k m is frame long =
     let two : 2 ≤ kind_length k = kind_long k in
     let sum : 4 + m ≡ 6 + (4 + m - 6) = omega arith in
     let l : length (take (4 + m - 6) (drop 6 xs)) ≡ 4 + m - 6 = length-take-le _ _ (omega (arith, length-drop 6 xs)) in
-    let split = take_sum 6 (4 + m - 6) xs in
+    let split = take-add 6 (4 + m - 6) xs in
     (ap (λ (i : ℕ). take i xs) sum ∙ split ∙ ap (λ (ys : List ℕ). ys ++ take (4 + m - 6) (drop 6 xs)) frame ∙ framed_body k _, omega arith)

@@ -78,16 +78,12 @@ impl<'a> Records<'a> {
         if self.is_empty() {
             return Ok(None);
         }
-        let file = self.file;
-        let at = self.at;
-        let rest = &file[at..];
+        let rest = &self.file[self.at..];
         let spot = self.spot();
         if !is_complete(rest) {
             return Err(RecordFault::CutOff(spot));
         }
-        let Some(kind) = kind_of(rest) else {
-            return Err(RecordFault::Misshapen(spot));
-        };
+        let kind = kind_of(rest).ok_or(RecordFault::Misshapen(spot))?;
         let size = LENGTH_SIZE + kind.length() as usize;
         self.pass(kind, size);
         Ok(Some(Record {

@@ -41,8 +41,7 @@ impl RecordFault {
         ensures { result ≡ spot_of self }
     {
         match self {
-            RecordFault::CutOff(spot) => spot,
-            RecordFault::Misshapen(spot) => spot,
+            RecordFault::CutOff(spot) | RecordFault::Misshapen(spot) => spot,
         }
     }
 }

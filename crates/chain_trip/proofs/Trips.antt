@@ -1,16 +1,26 @@
 -- When the calls of a trip are taken.
-use Rattle.std.proofs.Common.{◌≡◌, ℕ, ◌+◌, ◌≤◌, Bool, true, false, cond, ◌&&◌, leb, List, length, Some, None, sym, ap, ◌∙◌, arith}
+use Rattle.std.proofs.Common.{◌≡◌, ℕ, ◌+◌, ◌≤◌, Bool, true, false, cond, ◌&&◌, leb, List, length, Some, None, Option, Ok, Err, Result, sym, ap, ◌∙◌, arith}
+use Rattle.std.specs.Option.{MatchOption}
+use Rattle.std.specs.Result.{MatchResult, result_ok}
 use Rattle.chain_lists.specs.declared.Swap.{Swap}
 use Rattle.chain_lists.specs.Lists.{begun, head_written, lawful_head, lawful_swap}
 use Rattle.chain_lists.proofs.Growth.{front_begun, length_head_written}
-use Rattle.chain_writer.specs.declared.states.Open.{Open}
+use Rattle.chain_writer.specs.declared.states.Writer.{Writer}
+use Rattle.chain_writer.specs.declared.states.Listing.{Listing}
 use Rattle.chain_writer.specs.declared.states.WriterRefusal.{WriterRefusal}
 use Rattle.chain_writer.specs.declared.states.WriterRefusal.TheVariants.{NoRoom, WrongExchange}
 use Rattle.chain_writer.specs.Writing.{OpenHolds, begin_refusal, exchange_refusal, put_at}
 use Rattle.chain_writer.proofs.Splice.{length_put}
 use Rattle.chain_trip.specs.Trip.{lawful_trip}
 
-module _ (n s : ℕ) (x : Swap) (buf : List ℕ) (w : Open) (begins : begin_refusal n s buf ≡ None) (bytes : w.out.now ≡ put_at 0 (head_written n s) buf) (holds : OpenHolds w (begun n s)) where
+-- what is known of a read that cannot fail
+pub read_told
+    : {T E Q : Type 0} (A : Type 0) (r : Result T E) (o : Option T) (P : T → Type 0) → o ≡ result_ok r → Q → MatchResult r P (λ _. ⊥)
+    → MatchOption o A (λ x. Q × P x)
+read_told A (Ok x) o P is q h = rw is (q, h)
+read_told A (Err e) o P is q h = absurd h
+
+module _ (n s : ℕ) (x : Swap) (buf : List ℕ) (w : Writer Listing) (begins : begin_refusal n s buf ≡ None) (bytes : w.out.now ≡ put_at 0 (head_written n s) buf) (holds : OpenHolds w (begun n s)) where
   roomy : 65 ≤ length buf
   roomy = grind arith
 
@@ -26,7 +36,7 @@ module _ (n s : ℕ) (x : Swap) (buf : List ℕ) (w : Open) (begins : begin_refu
   -- the exchange is judged as the trip is
   judged : exchange_refusal w x ≡ cond (lawful_swap n s x) (cond (leb 73 (length buf)) None (Some NoRoom)) (Some WrongExchange)
   judged =
-      ap (λ (m : ℕ). cond (lawful_swap m w.present x) (cond (leb (w.at + 58) (length w.out.now)) None (Some NoRoom)) (Some WrongExchange)) holds.labels
+      ap (λ (m : ℕ). cond (lawful_swap m w.state.present x) (cond (leb (w.at + 58) (length w.out.now)) None (Some NoRoom)) (Some WrongExchange)) holds.labels
       ∙ ap (λ (t : ℕ). cond (lawful_swap n t x) (cond (leb (w.at + 58) (length w.out.now)) None (Some NoRoom)) (Some WrongExchange)) holds.set
       ∙ ap (λ (a : ℕ). cond (lawful_swap n s x) (cond (leb (a + 58) (length w.out.now)) None (Some NoRoom)) (Some WrongExchange)) place
       ∙ ap (λ (l : ℕ). cond (lawful_swap n s x) (cond (leb 73 l) None (Some NoRoom)) (Some WrongExchange)) long

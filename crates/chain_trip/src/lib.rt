@@ -16,21 +16,16 @@ pub fn trip(buffer: &mut [u8], n: u8, start: u64, swap: Swap, word: u64) -> Opti
         (lawful_trip n start swap (length buffer.old) ≡ false)
         (λ s. (lawful_trip n start swap (length buffer.old) ≡ true) × Summarises s (trip_of n start swap word)) }
 {
-    let Ok(begun) = begin(buffer, n, start) else {
+    // not `ok()?`: tried, and the check does not cover it where both sides hold the lent buffer
+    let Ok(mut file) = begin(buffer, n, start) else {
         return None;
     };
-    let mut file = begun;
-    let Ok(()) = file.exchange(swap) else {
-        return None;
-    };
+    file.exchange(swap).ok()?;
     let written = file.total(Total::Lamp(word)).end();
     let length = written.length;
     let out: &[u8] = written.out;
     if length > out.len() {
         return None;
     }
-    match read(&out[..length]) {
-        Ok(summary) => Some(summary),
-        Err(_) => None,
-    }
+    read(&out[..length]).ok()
 }

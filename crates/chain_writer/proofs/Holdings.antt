@@ -1,15 +1,15 @@
 -- What a buffer holds after each record that is put into it.
-use Rattle.std.proofs.Common.{◌≡◌, ℕ, ◌+◌, ◌%◌, ◌^◌, ◌<◌, ◌≤◌, Bool, true, false, cond, List, [], ◌∷◌, ◌++◌, length, take, ℤ, sym, refl, ap, ◌∙◌, arith}
+use Rattle.std.proofs.Common.{◌≡◌, ℕ, ◌+◌, ◌%◌, ◌^◌, ◌<◌, ◌≤◌, true, false, List, [], ◌∷◌, ◌++◌, length, take, sym, refl, ap, ◌∙◌, arith}
 use Rattle.std.proofs.lemmas.List.{length-append}
 use Rattle.chain_lists.specs.declared.Kind.TheVariants.{ShiftTotal, LampTotal}
 use Rattle.chain_lists.specs.declared.Swap.{Swap}
 use Rattle.chain_lists.specs.declared.Total.{Total}
 use Rattle.chain_lists.specs.declared.Total.TheVariants.{Shift, Lamp}
-use Rattle.chain_lists.specs.Lists.{ChainList, Fitting, Holds, begun, with_swap, with_total, last_set, count_of, lawful_head, lawful_swap, total_kind, same_kind, stands, head_written, swap_written, total_written, end_written, front_of}
+use Rattle.chain_lists.specs.Lists.{ChainList, Fitting, Holds, begun, with_swap, with_total, last_set, count_of, lawful_head, lawful_swap, total_kind, stands, head_written, swap_written, total_written, end_written, front_of}
 use Rattle.chain_lists.proofs.Growth.{lawful_begun, front_begun, lawful_swap_more, front_swap_more, count_swap_more, lawful_total_more, front_total_more, stands_more, length_front_le, length_head_written, length_swap_written, length_end_written, length_shift_written, length_lamp_written}
-use Rattle.chain_writer.specs.declared.states.Totals.{Totals}
-use Rattle.chain_writer.specs.Writing.{Holding, TotalsHolds, has_total, put_at, held_back}
-use Rattle.chain_writer.proofs.Splice.{Puts, length_put, take_put}
+use Rattle.chain_writer.specs.declared.states.Writer.{Writer}
+use Rattle.chain_writer.specs.Writing.{Holding, Keeps, Puts, put_at, held_back}
+use Rattle.chain_writer.proofs.Splice.{length_put, take_put}
 
 -- the same buffer, place and count under other names
 pub moved
@@ -73,44 +73,18 @@ hold_swap out at count c x h none l room few =
 
 -- ---- totals
 
-pub more_shift
-    : (ts : List Total) (t : Total) (across along : ℤ) → t ≡ Shift across along
-    → (stands ShiftTotal (ts ++ t ∷ []) ≡ true) × (stands LampTotal (ts ++ t ∷ []) ≡ stands LampTotal ts)
-more_shift ts t across along e = (
-  stands_more ShiftTotal ts t ∙ ap (λ (u : Total). cond (same_kind (total_kind u) ShiftTotal) true (stands ShiftTotal ts)) e,
-  stands_more LampTotal ts t ∙ ap (λ (u : Total). cond (same_kind (total_kind u) LampTotal) true (stands LampTotal ts)) e,
-)
-
-pub more_lamp
-    : (ts : List Total) (t : Total) (word : ℕ) → t ≡ Lamp word
-    → (stands ShiftTotal (ts ++ t ∷ []) ≡ stands ShiftTotal ts) × (stands LampTotal (ts ++ t ∷ []) ≡ true)
-more_lamp ts t word e = (
-  stands_more ShiftTotal ts t ∙ ap (λ (u : Total). cond (same_kind (total_kind u) ShiftTotal) true (stands ShiftTotal ts)) e,
-  stands_more LampTotal ts t ∙ ap (λ (u : Total). cond (same_kind (total_kind u) LampTotal) true (stands LampTotal ts)) e,
-)
-
 -- the total that is added leaves room for the others
 BackMore
     : (ts : List Total) (t : Total)
     → stands (total_kind t) ts ≡ false → held_back ts ≡ length (total_written t) + held_back (ts ++ t ∷ [])
 BackMore ts (Shift across along) h =
-    let shift : Bool → ℕ = λ b. cond b 0 22 in
-    let lamp : Bool → ℕ = λ b. cond b 0 14 in
-    let more = more_shift ts (Shift across along) across along refl in
-    let size = length_shift_written across along in
-    let before : ◌≡◌ {A = ℕ} (cond (stands ShiftTotal ts) 0 22) 22 = ap shift h in
-    let after : ◌≡◌ {A = ℕ} (cond (stands ShiftTotal (ts ++ Shift across along ∷ [])) 0 22) 0 = ap shift more.0 in
-    let other : ◌≡◌ {A = ℕ} (cond (stands LampTotal (ts ++ Shift across along ∷ [])) 0 14) (cond (stands LampTotal ts) 0 14) = ap lamp more.1 in
-    omega arith
+    let s = stands_more ShiftTotal ts (Shift across along) in
+    let l = stands_more LampTotal ts (Shift across along) in
+    rw (h, s, l, length_shift_written across along) (omega arith)
 BackMore ts (Lamp word) h =
-    let shift : Bool → ℕ = λ b. cond b 0 22 in
-    let lamp : Bool → ℕ = λ b. cond b 0 14 in
-    let more = more_lamp ts (Lamp word) word refl in
-    let size = length_lamp_written word in
-    let before : ◌≡◌ {A = ℕ} (cond (stands LampTotal ts) 0 14) 14 = ap lamp h in
-    let after : ◌≡◌ {A = ℕ} (cond (stands LampTotal (ts ++ Lamp word ∷ [])) 0 14) 0 = ap lamp more.1 in
-    let other : ◌≡◌ {A = ℕ} (cond (stands ShiftTotal (ts ++ Lamp word ∷ [])) 0 22) (cond (stands ShiftTotal ts) 0 22) = ap shift more.0 in
-    omega arith
+    let s = stands_more ShiftTotal ts (Lamp word) in
+    let l = stands_more LampTotal ts (Lamp word) in
+    rw (h, s, l, length_lamp_written word) (omega arith)
 
 pub room_total
     : (out : List ℕ) (at count : ℕ) (c : ChainList) (t : Total)
@@ -134,38 +108,14 @@ hold_total out at count c t h new f =
 
 -- the total that a call puts in
 pub totalled
-    : (out out' : List ℕ) (at count r : ℕ) (c : ChainList) (t : Total)
-    → Holding out at count c → stands (total_kind t) c.totals ≡ false → Fitting t → Puts at (total_written t) out out' r
-    → Holding out' r count (with_total c t) × (out' ≡ put_at at (total_written t) out)
-totalled out out' at count r c t h new f p =
-    let q = p (room_total out at count c t h new) in (
-      moved out' (put_at at (total_written t) out) r (at + length (total_written t)) count (with_total c t) q.1 q.0 (hold_total out at count c t h new f),
-      q.1,
-    )
-
--- which totals stand after the first one, by what it is
-pub first_shift
-    : (ts : List Total) (t : Total) (across along : ℤ) (p : Bool × Bool)
-    → ts ≡ [] → t ≡ Shift across along → p ≡ (true, false)
-    → (p.0 ≡ stands ShiftTotal (ts ++ t ∷ [])) × (p.1 ≡ stands LampTotal (ts ++ t ∷ []))
-first_shift ts t across along p none e f =
-    let more = more_shift ts t across along e in
-    (ap (λ (q : Bool × Bool). q.0) f ∙ sym more.0, ap (λ (q : Bool × Bool). q.1) f ∙ sym (more.1 ∙ ap (stands LampTotal) none))
-
-pub first_lamp
-    : (ts : List Total) (t : Total) (word : ℕ) (p : Bool × Bool)
-    → ts ≡ [] → t ≡ Lamp word → p ≡ (false, true)
-    → (p.0 ≡ stands ShiftTotal (ts ++ t ∷ [])) × (p.1 ≡ stands LampTotal (ts ++ t ∷ []))
-first_lamp ts t word p none e f =
-    let more = more_lamp ts t word e in
-    (ap (λ (q : Bool × Bool). q.0) f ∙ sym (more.0 ∙ ap (stands ShiftTotal) none), ap (λ (q : Bool × Bool). q.1) f ∙ sym more.1)
-
--- a total of which no other of its kind was written
-pub new_total
-    : (w : Totals) (c : ChainList) (t : Total)
-    → TotalsHolds w c → false ≡ has_total w t → stands (total_kind t) c.totals ≡ false
-new_total w c (Shift across along) h e = sym h.shift_stands ∙ sym e
-new_total w c (Lamp word) h e = sym h.lamp_stands ∙ sym e
+    : {S : Type 0} {old new : Writer S} {c : ChainList} (t : Total)
+    → Holding old.out.now old.at old.count c → stands (total_kind t) c.totals ≡ false → Fitting t
+    → Puts old (total_written t) new → Keeps old new
+    → Holding new.out.now new.at new.count (with_total c t) × (new.out.now ≡ put_at old.at (total_written t) old.out.now)
+totalled {S} {old} {new} {c} t h fresh f p keeps =
+    let room = room_total old.out.now old.at old.count c t h fresh in
+    let held = hold_total old.out.now old.at old.count c t h fresh f in
+    (rw keeps.count (moved _ _ _ _ old.count (with_total c t) (p.written room) (p.place room) held), p.written room)
 
 -- ---- the end
 
@@ -188,13 +138,16 @@ holds_ended out at count c h =
 
 -- what a call that puts the end in leaves
 pub ended
-    : (out out' : List ℕ) (at count r : ℕ) (c : ChainList)
-    → Holding out at count c → Puts at (end_written count) out out' r
-    → Holds (take r out') c × (r ≤ length out') × (r ≡ at + length (end_written count)) × (out' ≡ put_at at (end_written count) out)
-ended out out' at count r c h p =
-    let q = p (room_end out at count c h) in
-    let e = holds_ended out at count c h in
-    let f : Holds (take r out') c = record { lawful = e.lawful; written = ap (take r) q.1 ∙ ap (λ (k : ℕ). take k (put_at at (end_written count) out)) q.0 ∙ e.written } in
-    let room = room_end out at count c h in
-    let fits : r ≤ length out' = omega (arith, q.0, ap length q.1, length_put at (end_written count) out room, room) in
-    (f, fits, q.0, q.1)
+    : {S : Type 0} {old new : Writer S} {c : ChainList}
+    → Holding old.out.now old.at old.count c → Puts old (end_written old.count) new
+    → Holds (take new.at new.out.now) c
+    × (new.at ≤ length new.out.now)
+    × (new.at ≡ old.at + length (end_written old.count))
+    × (new.out.now ≡ put_at old.at (end_written old.count) old.out.now)
+ended {S} {old} {new} {c} h p =
+    let room = room_end old.out.now old.at old.count c h in
+    let at = p.place room in
+    let out = p.written room in
+    let fits : new.at ≤ length new.out.now =
+    omega (arith, at, ap length out, length_put old.at (end_written old.count) old.out.now room, room) in
+    (rw (at, out) (holds_ended old.out.now old.at old.count c h), fits, at, out)

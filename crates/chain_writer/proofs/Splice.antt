@@ -1,11 +1,11 @@
 -- Bytes that are put into a buffer: what stands before their end, and what stays.
-use Rattle.std.proofs.Common.{◌≡◌, ℕ, ◌+◌, ◌/◌, ◌%◌, ◌≤◌, List, [], ◌∷◌, ◌++◌, length, get_or, take, drop, ℤ, sym, ap, ◌∙◌, subst, arith, w64, SFits, to_z, of_z}
+use Rattle.std.proofs.Common.{◌≡◌, ℕ, ◌+◌, ◌≤◌, List, ◌++◌, length, take, drop, ℤ, sym, ap, ◌∙◌, subst, arith, w64, SFits, to_z, of_z}
 use Rattle.std.proofs.lemmas.List.{append_assoc, drop_at, drop-drop, length-append, length-drop, length-take-le, take_at}
 use Rattle.std.proofs.lemmas.Int.{to_z-of_z}
 use Rattle.chain_lists.specs.declared.Kind.{Kind}
 use Rattle.chain_lists.specs.Lists.{little, framed, kind_length, kind_number}
-use Rattle.chain_lists.proofs.Bytes.{length_framed, length_little, little_8}
-use Rattle.chain_writer.specs.Writing.{put_at}
+use Rattle.chain_writer.specs.declared.states.Writer.{Writer}
+use Rattle.chain_writer.specs.Writing.{Puts, put_at}
 
 -- how long what stands before the end of the bytes is
 length_before : (a : ℕ) (ys xs : List ℕ) → a ≤ length xs → length (take a xs ++ ys) ≡ a + length ys
@@ -48,40 +48,43 @@ put_after a ys zs xs h =
     ∙ ap (λ (q : List ℕ). take a xs ++ q) (sym (append_assoc ys zs (drop (b + length zs) xs)))
     ∙ ap (λ (k : ℕ). take a xs ++ ((ys ++ zs) ++ drop k xs)) (sym same)
 
--- the length, the kind and the body of a record, put in one after the other
-pub put_framed
-    : (a : ℕ) (k : Kind) (body xs : List ℕ) (ls ks xs₁ xs₂ xs₃ : List ℕ)
-    → a + length (framed k body) ≤ length xs
-    → ls ≡ little 4 (kind_length k) → ks ≡ little 2 (kind_number k)
-    → xs₁ ≡ put_at a ls xs → xs₂ ≡ put_at (a + 4) ks xs₁ → xs₃ ≡ put_at (a + 6) body xs₂
-    → xs₃ ≡ put_at a (framed k body) xs
-put_framed a k body xs ls ks xs₁ xs₂ xs₃ h d e p q r =
-    let L : List ℕ = little 4 (kind_length k) in
-    let K : List ℕ = little 2 (kind_number k) in
-    let l4 = length_little 4 (kind_length k) in
-    let l2 = length_little 2 (kind_number k) in
-    let l6 = length-append L K in
-    let long = length_framed k body in
-    let b4 : a + 4 ≡ a + length L = omega arith in
-    let b6 : a + 6 ≡ a + length (L ++ K) = omega arith in
-    let one : xs₁ ≡ put_at a L xs = p ∙ ap (λ (q : List ℕ). put_at a q xs) d in
-    let two : xs₂ ≡ put_at a (L ++ K) xs =
-    q ∙ ap (λ (q : List ℕ). put_at (a + 4) q xs₁) e ∙ ap (put_at (a + 4) K) one ∙ ap (λ (j : ℕ). put_at j K (put_at a L xs)) b4
-    ∙ put_after a L K xs (omega arith) in
-    let three : xs₃ ≡ put_at a ((L ++ K) ++ body) xs =
-    r ∙ ap (put_at (a + 6) body) two ∙ ap (λ (j : ℕ). put_at j body (put_at a (L ++ K) xs)) b6 ∙ put_after a (L ++ K) body xs (omega arith) in
-    three ∙ ap (λ (q : List ℕ). put_at a q xs) (append_assoc L K body)
+-- ---- what calls put in, one after the other
 
--- the bytes of a number, read one by one
-pub read_eight
-    : (bs rest : List ℕ) (x : ℕ)
-    → bs
-    ≡ x % 256 ∷ x / 256 % 256 ∷ x / 65536 % 256 ∷ x / 16777216 % 256 ∷ x / 4294967296 % 256 ∷ x / 1099511627776 % 256 ∷ x / 281474976710656 % 256 ∷ x / 72057594037927936 % 256 ∷ []
-    → get_or bs 0 0 ∷ get_or bs 1 0 ∷ get_or bs 2 0 ∷ get_or bs 3 0 ∷ get_or bs 4 0 ∷ get_or bs 5 0 ∷ get_or bs 6 0 ∷ get_or bs 7 0 ∷ rest
-    ≡ little 8 x ++ rest
-read_eight bs rest x e =
-    ap (λ (q : List ℕ). get_or q 0 0 ∷ get_or q 1 0 ∷ get_or q 2 0 ∷ get_or q 3 0 ∷ get_or q 4 0 ∷ get_or q 5 0 ∷ get_or q 6 0 ∷ get_or q 7 0 ∷ rest) e
-    ∙ ap (λ (q : List ℕ). q ++ rest) (sym (little_8 x))
+-- bytes that are put in, in other words
+pub puts_same : {S : Type 0} {old new : Writer S} {ys zs : List ℕ} → ys ≡ zs → Puts old ys new → Puts old zs new
+puts_same {S} {old} {new} e p = subst (λ (q : List ℕ). Puts old q new) e p
+
+pub puts_after : {S : Type 0} {w w₁ w₂ : Writer S} {ys zs : List ℕ} → Puts w ys w₁ → Puts w₁ zs w₂ → Puts w (ys ++ zs) w₂
+puts_after {S} {w} {w₁} {w₂} {ys} {zs} p q =
+    record {
+      place =
+          λ h. let f : w.at + length ys ≤ length w.out.now = first h in let g = second h in omega (arith, p.place f, q.place g, length-append ys zs);
+      written =
+          λ h.
+          let f = first h in
+          q.written (second h)
+          ∙ ap (λ (k : ℕ). put_at k zs w₁.out.now) (p.place f)
+          ∙ ap (put_at (w.at + length ys) zs) (p.written f)
+          ∙ put_after w.at ys zs w.out.now f;
+    }
+  where
+    first : w.at + length (ys ++ zs) ≤ length w.out.now → w.at + length ys ≤ length w.out.now
+    first h = omega (arith, h, length-append ys zs)
+
+    second : w.at + length (ys ++ zs) ≤ length w.out.now → w₁.at + length zs ≤ length w₁.out.now
+    second h =
+        let f = first h in
+        omega (arith, h, length-append ys zs, p.place f, ap length (p.written f), length_put w.at ys w.out.now f)
+
+-- the length, the kind and the body of a record
+pub puts_framed
+    : {S : Type 0} {w w₁ w₂ w₃ : Writer S} (k : Kind) {body ls ks : List ℕ}
+    → ls ≡ little 4 (kind_length k) → ks ≡ little 2 (kind_number k)
+    → Puts w ls w₁ → Puts w₁ ks w₂ → Puts w₂ body w₃ → Puts w (framed k body) w₃
+puts_framed k {body} {ls} {ks} d e p q r =
+    puts_same
+    (append_assoc ls ks body ∙ ap (λ (l : List ℕ). l ++ (ks ++ body)) d ∙ ap (λ (l : List ℕ). little 4 (kind_length k) ++ (l ++ body)) e)
+    (puts_after (puts_after p q) r)
 
 -- signed numbers, as a caller passes them
 pub eights_same
@@ -90,10 +93,3 @@ pub eights_same
 eights_same x y f g =
     let eight : ℤ → List ℕ = λ z. little 8 (of_z w64 z) in
     ap (λ (z : ℤ). eight z ++ eight (to_z w64 (of_z w64 y))) (to_z-of_z w64 x f) ∙ ap (λ (z : ℤ). eight x ++ eight z) (to_z-of_z w64 y g)
-
--- what a call that puts a record in says of the place that it answers and the buffer after it, also of other words for the record
-abbrev pub Puts : ℕ → List ℕ → List ℕ → List ℕ → ℕ → Type 0
-Puts a ys xs xs₁ r = a + length ys ≤ length xs → (r ≡ a + length ys) × (xs₁ ≡ put_at a ys xs)
-
-pub puts_same : (a : ℕ) (ys zs xs xs₁ : List ℕ) (r : ℕ) → ys ≡ zs → Puts a ys xs xs₁ r → Puts a zs xs xs₁ r
-puts_same a ys zs xs xs₁ r e p = subst (λ (q : List ℕ). Puts a q xs xs₁ r) e p

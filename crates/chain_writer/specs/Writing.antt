@@ -3,10 +3,10 @@ use Rattle.std.specs.Prelude.{◌≡◌, ℕ, ◌+◌, ◌≤◌, Bool, cond, Li
 use Rattle.chain_lists.specs.declared.Kind.TheVariants.{ShiftTotal, LampTotal}
 use Rattle.chain_lists.specs.declared.Swap.{Swap}
 use Rattle.chain_lists.specs.declared.Total.{Total}
-use Rattle.chain_lists.specs.declared.Total.TheVariants.{Shift, Lamp}
-use Rattle.chain_lists.specs.Lists.{ChainList, Lawful, count_of, last_set, lawful_head, lawful_swap, stands, front_of}
-use Rattle.chain_writer.specs.declared.states.Open.{Open}
-use Rattle.chain_writer.specs.declared.states.Totals.{Totals}
+use Rattle.chain_lists.specs.Lists.{ChainList, Lawful, Marks, is_marked, count_of, last_set, lawful_head, lawful_swap, stands, front_of}
+use Rattle.chain_lists.specs.declared.TotalKinds.{TotalKinds}
+use Rattle.chain_writer.specs.declared.states.Writer.{Writer}
+use Rattle.chain_writer.specs.declared.states.Listing.{Listing}
 use Rattle.chain_writer.specs.declared.states.WriterRefusal.{WriterRefusal}
 use Rattle.chain_writer.specs.declared.states.WriterRefusal.TheVariants.{ShortBuffer, NoRoom, WrongHead, WrongExchange, SecondTotal}
 
@@ -21,6 +21,17 @@ refusal_number SecondTotal = 23
 -- bytes in a buffer from the place `at` on, all others as they were
 abbrev pub put_at : ℕ → List ℕ → List ℕ → List ℕ
 put_at at bytes out = take at out ++ (bytes ++ drop (at + length bytes) out)
+
+-- a call of a writer puts these bytes in at its place and goes behind them, where they have room
+pub record Puts {S : Type 0} (old : Writer S) (bytes : List ℕ) (new : Writer S) : Type 0 where
+  pub place : old.at + length bytes ≤ length old.out.now → new.at ≡ old.at + length bytes
+  pub written : old.at + length bytes ≤ length old.out.now → new.out.now ≡ put_at old.at bytes old.out.now
+
+-- it changes the buffer's bytes and the place alone
+pub record Keeps {S : Type 0} (old new : Writer S) : Type 0 where
+  pub count : new.count ≡ old.count
+  pub state : new.state ≡ old.state
+  pub lender : new.out.ghost_name ≡ old.out.ghost_name
 
 -- how many bytes records take
 abbrev pub head_size : ℕ
@@ -48,18 +59,17 @@ abbrev pub begin_refusal : ℕ → ℕ → List ℕ → Option WriterRefusal
 begin_refusal n start out =
     cond (lawful_head n start) (cond (nat_le (head_size + held_back []) (length out)) None (Some ShortBuffer)) (Some WrongHead)
 
-abbrev pub exchange_refusal : Open → Swap → Option WriterRefusal
+abbrev pub exchange_refusal : Writer Listing → Swap → Option WriterRefusal
 exchange_refusal w x =
-    cond (lawful_swap w.n w.present x)
+    cond (lawful_swap w.state.n w.state.present x)
     (cond (nat_le (w.at + (swap_size + held_back [])) (length w.out.now)) None (Some NoRoom))
     (Some WrongExchange)
 
 -- a total of this kind was written
-abbrev pub has_total : Totals → Total → Bool
-has_total w (Shift across along) = w.shift
-has_total w (Lamp word) = w.lamp
+abbrev pub has_total : Writer TotalKinds → Total → Bool
+has_total w t = is_marked w.state t
 
-abbrev pub total_refusal : Totals → Total → Option WriterRefusal
+abbrev pub total_refusal : Writer TotalKinds → Total → Option WriterRefusal
 total_refusal w t = cond (has_total w t) (Some SecondTotal) None
 
 -- ---- what is written
@@ -73,14 +83,13 @@ pub record Holding (out : List ℕ) (at count : ℕ) (c : ChainList) : Type 0 wh
   pub room : at + held_back c.totals ≤ length out
 
 -- an open file that holds c so far
-pub record OpenHolds (w : Open) (c : ChainList) : Type 0 where
+pub record OpenHolds (w : Writer Listing) (c : ChainList) : Type 0 where
   pub holding : Holding w.out.now w.at w.count c
-  pub labels : w.n ≡ c.n
-  pub set : w.present ≡ last_set c.start c.swaps
+  pub labels : w.state.n ≡ c.n
+  pub set : w.state.present ≡ last_set c.start c.swaps
   pub no_totals : c.totals ≡ []
 
 -- a file that takes only totals and holds c so far
-pub record TotalsHolds (w : Totals) (c : ChainList) : Type 0 where
+pub record TotalsHolds (w : Writer TotalKinds) (c : ChainList) : Type 0 where
   pub holding : Holding w.out.now w.at w.count c
-  pub shift_stands : w.shift ≡ stands ShiftTotal c.totals
-  pub lamp_stands : w.lamp ≡ stands LampTotal c.totals
+  pub marked : Marks w.state c.totals

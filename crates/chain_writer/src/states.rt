@@ -1,24 +1,29 @@
-//! The states of a writer, each with the caller's buffer in it.
+//! A writer and its states, and what it hands out.
+ghost use Rattle.std.specs.Prelude.{◌≡◌};
 
-/// A file that takes exchanges, a total or the end.
+use chain_lists::TotalKinds;
+
+/// A file that is being written into the caller's buffer, in the state `S`.
 #[derive(Drop)]
-pub struct Open<'a> {
+pub struct Writer<'a, S> {
     pub(crate) out: &'a mut [u8],
     pub(crate) at: usize,
+    pub(crate) count: u64,
+    pub(crate) state: S,
+}
+
+/// The labels of a file and its last set.
+#[derive(Clone, Copy)]
+pub struct Listing {
     pub(crate) n: u8,
     pub(crate) present: u64,
-    pub(crate) count: u64,
 }
 
+/// A file that takes exchanges, a total or the end.
+pub type Open<'a> = Writer<'a, Listing>;
+
 /// A file that takes only totals and the end.
-#[derive(Drop)]
-pub struct Totals<'a> {
-    pub(crate) out: &'a mut [u8],
-    pub(crate) at: usize,
-    pub(crate) count: u64,
-    pub(crate) shift: bool,
-    pub(crate) lamp: bool,
-}
+pub type Totals<'a> = Writer<'a, TotalKinds>;
 
 /// A file that is written: the buffer, and how many of its first bytes are the file.
 #[derive(Drop)]
@@ -47,4 +52,12 @@ pub enum WriterRefusal {
     WrongExchange,
     /// There is a total of this kind already.
     SecondTotal,
+}
+
+impl<'a> From<Rejected<'a>> for WriterRefusal {
+    ghost from_gives = { λ rejected why. why ≡ rejected.why };
+
+    fn from(rejected: Rejected<'a>) -> WriterRefusal {
+        rejected.why
+    }
 }

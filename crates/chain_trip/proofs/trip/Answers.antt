@@ -1,35 +1,30 @@
 use Rattle.std.proofs.Common.{arith}
+use Rattle.chain_lists.proofs.Results.{err_told, ok_told}
 use Rattle.chain_lists.specs.Lists.{begun}
-use Rattle.chain_trip.proofs.Trips.{refused_trip, taken_trip}
+use Rattle.chain_trip.proofs.Trips.{read_told, refused_trip, taken_trip}
 use Rattle.chain_trip.proofs.trip.Goals as goal
 
-pub returns-in_default-exchange : goal.returns-in_default-exchange
-returns-in_default-exchange c =
+pub returns-in_err-ok : goal.returns-in_err-ok
+returns-in_err-ok c =
     let b = c.in-Ok.ensures.cases in
-    refused_trip c.args.n c.args.start c.args.swap c.args.buffer.now c.in-Ok.begun b.0 b.1 b.2 c.in_default-exchange.ensures.cases.0
+    let e = err_told c.exchange.result _ _ c.in_err-ok.ensures.value c.exchange.ensures.cases in
+    rw c.from_residual.ensures (refused_trip c.args.n c.args.start c.args.swap c.args.buffer.now c.in-Ok.file b.0 b.1 b.2 e.1.0)
 
 pub returns-then-length-out : goal.returns-then-length-out
 returns-then-length-out c =
     let b = c.in-Ok.ensures.cases in
-    let o = c.in-Ok-exchange.ensures.holds (begun c.args.n c.args.start) b.2 in
+    let o = ok_told c.exchange.result _ _ _ c.in_ok-ok.ensures.value (c.exchange.ensures.holds (begun c.args.n c.args.start) b.2) in
     let t = (c.total.ensures _ o).0 in
-    let e = c.end-written.ensures _ t in
+    let e = c.end-written.ensures _ t.holding in
     absurd (omega (arith, e.1, c.if-length-out.true))
 
-pub returns-in-Ok-read : goal.returns-in-Ok-read
-returns-in-Ok-read c =
+pub returns : goal.returns
+returns c =
     let b = c.in-Ok.ensures.cases in
-    let o = c.in-Ok-exchange.ensures.holds (begun c.args.n c.args.start) b.2 in
+    let taken = ok_told c.exchange.result _ _ _ c.in_ok-ok.ensures.value c.exchange.ensures.cases in
+    let o = ok_told c.exchange.result _ _ _ c.in_ok-ok.ensures.value (c.exchange.ensures.holds (begun c.args.n c.args.start) b.2) in
     let t = (c.total.ensures _ o).0 in
-    let e = c.end-written.ensures _ t in (
-      taken_trip c.args.n c.args.start c.args.swap c.args.buffer.now c.in-Ok.begun b.0 b.1 b.2 c.in-Ok-exchange.ensures.cases.0,
-      c.in-Ok-read.ensures.reads_back _ e.0,
-    )
-
-pub returns-in-Err : goal.returns-in-Err
-returns-in-Err c =
-    let b = c.in-Ok.ensures.cases in
-    let o = c.in-Ok-exchange.ensures.holds (begun c.args.n c.args.start) b.2 in
-    let t = (c.total.ensures _ o).0 in
-    let e = c.end-written.ensures _ t in
-    absurd (c.in-Err.ensures.reads_back _ e.0)
+    let e = c.end-written.ensures _ t.holding in
+    read_told _ c.read.result _ _ c.ok-2.ensures.value
+    (taken_trip c.args.n c.args.start c.args.swap c.args.buffer.now c.in-Ok.file b.0 b.1 b.2 taken.0)
+    (c.read.ensures.reads_back _ e.0)

@@ -1,14 +1,16 @@
 use Rattle.std.proofs.Common.{◌≡◌, ℕ, List, ◌++◌, sym, refl, ap, ◌∙◌, subst}
 use Rattle.std.proofs.lemmas.List.{append_assoc}
 use Rattle.std.proofs.lemmas.Result.{err_from_is_err_and}
-use Rattle.std.proofs.lemmas.Option.{MatchOption-at_some}
+use Rattle.std.proofs.lemmas.Option.{MatchOption-at_some, MatchOption-at_none}
 use Rattle.chain_lists.specs.declared.Spot.{Spot}
 use Rattle.chain_lists.specs.Lists.{framed}
 use Rattle.chain_lists.specs.Faults.{bytes_of}
 use Rattle.chain_records.specs.Records.{left_of}
+use Rattle.chain_lists.proofs.Results.{ok_or_told}
 use Rattle.chain_records.proofs.Frames.{nothing_left}
+use Rattle.chain_reader.specs.declared.values.ListFault.TheVariants.{OutOfOrder}
 use Rattle.chain_reader.specs.Reading.{Known, StageAfter, end_of, entry_written, extended}
-use Rattle.chain_reader.proofs.Runs.{refused_here, ended_well, fault_next, framed_fault, framed_some, goes_behind}
+use Rattle.chain_reader.proofs.Runs.{no_end, refused_here, ended_well, fault_next, framed_fault, framed_some, goes_behind}
 use Rattle.chain_reader.proofs.states.ListReader.next.Goals as goal
 
 pub returns-then-is_empty : goal.returns-then-is_empty
@@ -22,10 +24,10 @@ returns-then-is_empty c =
       );
     }
 
-pub returns-in_err-record : goal.returns-in_err-record
-returns-in_err-record c =
+pub returns-in_err-next : goal.returns-in_err-next
+returns-in_err-next c =
     let p = err_from_is_err_and c.from_residual.result c.from_residual.ensures.1 in
-    let k = c.in_err-record.ensures.cases in
+    let k = c.in_err-next.ensures.cases in
     record {
       file = refl;
       reads = λ b h.
@@ -33,11 +35,24 @@ returns-in_err-record c =
           (refused_here _ b _ _ _ h.lawful h.made (k.0 ∙ h.place) (fault_next b _ _ h.stage c.in_default.not-Ended k.1 ∙ k.2 b), h);
     }
 
+pub returns-in_err-record : goal.returns-in_err-record
+returns-in_err-record c =
+    let p = err_from_is_err_and c.from_residual-in_err-record.result c.from_residual-in_err-record.ensures.1 in
+    let a = c.in_err-record.ensures in
+    let is : c.in_err-record.field-0.0 ≡ OutOfOrder c.spot-2.result = ok_or_told _ _ _ a.ok_part a.value in
+    let none = MatchOption-at_none _ _ a.ok_part c.in_ok-next.ensures.cases in
+    record {
+      file = refl;
+      reads = λ b h.
+          rw (p.1, p.2, is)
+          (refused_here _ b _ _ _ h.lawful h.made (c.spot-2.ensures ∙ none.1 ∙ h.place) (no_end b _ _ h.stage c.in_default.not-Ended none.0), h);
+    }
+
 pub returns-in_err-step : goal.returns-in_err-step
 returns-in_err-step c =
     let p = err_from_is_err_and c.from_residual-in_err-step.result c.from_residual-in_err-step.ensures.1 in
-    let x = c.in-Some.record in
-    let k = MatchOption-at_some _ _ x c.in-Some.is c.in_ok-record.ensures.cases in
+    let x = c.in_ok-record.record in
+    let k = MatchOption-at_some _ _ x c.in_ok-record.ensures.ok_part c.in_ok-next.ensures.cases in
     record {
       file = refl;
       reads = λ b h.
@@ -52,10 +67,10 @@ returns-in_err-step c =
 
 pub returns : goal.returns
 returns c =
-    let x = c.in-Some.record in
-    let k = MatchOption-at_some _ _ x c.in-Some.is c.in_ok-record.ensures.cases in
+    let x = c.in_ok-record.record in
+    let k = MatchOption-at_some _ _ x c.in_ok-record.ensures.ok_part c.in_ok-next.ensures.cases in
     record {
-      file = c.in_ok-record.ensures.file;
+      file = c.in_ok-next.ensures.file;
       reads = λ b h.
           let at : x.spot ≡ end_of b = k.0 ∙ h.place in
           let known : Known b c.args.self.now.stage x.spot = record { lawful = h.lawful; stage = h.stage; before = ap (λ (q : Spot). q.before) at } in
@@ -72,7 +87,7 @@ returns c =
           says.grown ∙ ap (λ (ys : List ℕ). bytes_of b ++ ys) (sym says.bytes) in (
             record {
               lawful = says.lawful;
-              made = c.in_ok-record.ensures.file ∙ h.made ∙ grown;
+              made = c.in_ok-next.ensures.file ∙ h.made ∙ grown;
               place = k.5
                   ∙ goes_behind b (extended b e) x.kind x.body.now _ k.3 whole says.swaps h.place;
               stage = says.stage;

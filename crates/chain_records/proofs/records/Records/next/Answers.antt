@@ -1,5 +1,9 @@
 use Rattle.std.proofs.Common.{◌≡◌, ℕ, ◌+◌, ◌-◌, ◌^◌, ◌<◌, ◌≤◌, false, List, ◌++◌, length, take, drop, sym, refl, ap, ◌∙◌, arith, rules}
 use Rattle.std.proofs.lemmas.List.{length-drop, take_rest, drop-drop, take-append-drop}
+use Rattle.std.proofs.lemmas.Option.{MatchOption-at_some, MatchOption-at_none}
+use Rattle.std.proofs.lemmas.Result.{err_from_is_err_and}
+use Rattle.chain_records.specs.declared.values.RecordFault.TheVariants.{Misshapen}
+use Rattle.chain_lists.proofs.Results.{ok_or_told}
 use Rattle.chain_lists.specs.declared.Spot.{Spot}
 use Rattle.chain_lists.specs.Lists.{kind_length}
 use Rattle.chain_lists.specs.Faults.{complete, record_fault}
@@ -17,25 +21,31 @@ returns-then-not-is_complete c =
     let f : complete (left_of s) ≡ false = sym (ap complete e) ∙ sym c.is_complete.ensures ∙ c.if-not-is_complete.true in
     record { file = refl; cases = (c.spot-spot.ensures, some_left _ c.is_empty.ensures c.if-is_empty.false, λ b. cut_fault b _ f, refl) }
 
-pub returns-in_default : goal.returns-in_default
-returns-in_default c =
+pub returns-in_err-kind-clause-cases : goal.returns-in_err-kind-clause-cases
+returns-in_err-kind-clause-cases c =
     let s = c.args.self.now in
     let e : take (length s.file.now - s.at) (drop s.at s.file.now) ≡ left_of s = take_rest s.file.now s.at in
-    record { file = refl; cases = (c.spot-spot.ensures, some_left _ c.is_empty.ensures c.if-is_empty.false, λ b. sym (ap (record_fault b) e) ∙ c.in_default.ensures b, refl) }
+    let a = c.in_err-kind.ensures in
+    let p = err_from_is_err_and c.from_residual.result c.from_residual.ensures.1 in
+    let is : c.in_err-kind.field-0.0 ≡ Misshapen c.spot-spot.result = ok_or_told c.kind_of.result _ _ a.ok_part a.value in
+    let wrong = MatchOption-at_none _ _ a.ok_part c.kind_of.ensures in
+    rw (p.1, p.2, is)
+    (c.spot-spot.ensures, some_left _ c.is_empty.ensures c.if-is_empty.false, λ b. sym (ap (record_fault b) e) ∙ wrong b, refl)
 
 pub pass-requires : goal.pass-requires
 pass-requires c =
     let s = c.args.self.now in
     let e : take (length s.file.now - s.at) (drop s.at s.file.now) ≡ left_of s = take_rest s.file.now s.at in
-    let k = c.in-Some.ensures.1 in
+    let k = (MatchOption-at_some _ _ _ c.in_ok-kind.ensures.ok_part c.kind_of.ensures).1 in
     (ap (λ (n : ℕ). 4 + n) c.length.ensures, omega (arith, ap length e, k, c.length.ensures))
 
 pub returns : goal.returns
 returns c =
     let s = c.args.self.now in
     let e : take (length s.file.now - s.at) (drop s.at s.file.now) ≡ left_of s = take_rest s.file.now s.at in
-    let k = c.in-Some.kind in
-    let cut = CutRecord (take (length s.file.now - s.at) (drop s.at s.file.now)) k c.length.result c.length.ensures c.in-Some.ensures.0 c.in-Some.ensures.1 in
+    let k = c.in_ok-kind.kind in
+    let framed = MatchOption-at_some _ _ _ c.in_ok-kind.ensures.ok_part c.kind_of.ensures in
+    let cut = CutRecord (take (length s.file.now - s.at) (drop s.at s.file.now)) k c.length.result c.length.ensures framed.0 framed.1 in
     let at : c.pass.new.self.at ≡ s.at + (4 + kind_length k) = ap (λ (p : Spot). p.byte) c.pass.ensures.place in
     let onwards : left_of c.pass.new.self ≡ drop (4 + kind_length k) (left_of s) = ap (λ (f : List ℕ). drop c.pass.new.self.at f) c.pass.ensures.file ∙ ap (λ (i : ℕ). drop i s.file.now) at ∙ sym (drop-drop (4 + kind_length k) s.at s.file.now) in
     let size : 4 + c.length.result ≡ 4 + kind_length k = ap (λ (n : ℕ). 4 + n) c.length.ensures in
@@ -45,7 +55,7 @@ returns c =
     ∙ ap (λ (l : List ℕ). take (4 + c.length.result) (take (length s.file.now - s.at) (drop s.at s.file.now)) ++ l)
     (ap (λ (i : ℕ). drop i (left_of s)) size ∙ sym onwards) in
     let long : length s.file.now < 2 ^ 64 = search rules in
-    let fits : 4 + kind_length k ≤ length (left_of s) = omega (arith, ap length e, c.in-Some.ensures.1) in
+    let fits : 4 + kind_length k ≤ length (left_of s) = omega (arith, ap length e, framed.1) in
     let few : c.spot-spot.result.before + 2 < 2 ^ 64 =
     omega (arith, long, fits, s.few, s.within, length-drop s.at s.file.now, ap (λ (p : Spot). p.before) c.spot-spot.ensures) in
     record {

@@ -1,0 +1,10 @@
+use Rattle.std.proofs.Common.{sym, refl, ◌∙◌}
+use Rattle.chain_reader.proofs.Says.{exchange_says}
+use Rattle.chain_reader.proofs.states.Progress.exchange.Goals as goal
+
+pub returns : goal.returns
+returns c =
+    λ l k.
+    exchange_says l c.args.self _ _ c.args.found.body.now c.args.found.spot k c.requires.0 c.requires.1
+    (sym (c.is_empty.ensures l.totals k.stage.2) ∙ c.if-not-is_empty.false) refl refl
+    (sym c.is_lawful.ensures ∙ c.if-not-is_lawful.false) c.after-present.ensures.lawful
