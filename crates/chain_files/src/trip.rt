@@ -11,7 +11,7 @@ use std::io;
 use std::io::Write;
 use survey_walk::{SurveyWalk, walk_of};
 use tie_rule::Closest;
-use walk::{Parts, Walk};
+use walk::Walk;
 
 /// How many bytes the buffers here have.
 pub const ROOM: usize = 512;
@@ -75,7 +75,7 @@ fn write_list<'a>(
 fn lamp_total(graphic: Graphic) -> anyhow::Result<u64> {
     let mut words = Words::new();
     for word in &WORDS {
-        words.add(*word).ok().context("a word is refused")?;
+        words.add(*word).context("a word is refused")?;
     }
     let mut walk = Walk::begin(graphic, Closest, words, 0, u64::MAX);
     for _ in 0..STEPS {
@@ -83,26 +83,12 @@ fn lamp_total(graphic: Graphic) -> anyhow::Result<u64> {
             break;
         }
     }
-    // not `..`: parts have to be taken whole
-    let Parts {
-        matroid: _,
-        rule: _,
-        measure: _,
-        view,
-    } = walk.close();
-    Ok(view.total.bits)
+    Ok(walk.close().view.total.bits)
 }
 
 /// Ends a walk, and gives its graph back.
 fn graph_of(walk: SurveyWalk) -> Graphic {
-    // not `..`: parts have to be taken whole
-    let Parts {
-        matroid,
-        rule: _,
-        measure: _,
-        view: _,
-    } = walk.close();
-    matroid
+    walk.close().matroid
 }
 
 /// The first `n` bytes, or all if there are fewer.

@@ -1,6 +1,6 @@
 //! The chain file of a list.
 use chain_lists::{Swap, Total};
-use chain_writer::{Open, WriterRefusal, begin};
+use chain_writer::{Open, Rejected, WriterRefusal, begin};
 use matroid::Matroid;
 use measure::Shifts;
 use std::io;
@@ -16,6 +16,15 @@ const ROOM: usize = 1024;
 pub struct Unwritten {
     why: WriterRefusal,
     before: u64,
+}
+
+impl<'a> From<Rejected<'a>> for Unwritten {
+    fn from(rejected: Rejected<'a>) -> Unwritten {
+        Unwritten {
+            why: rejected.why,
+            before: 0,
+        }
+    }
 }
 
 /// Adds the exchanges of so many further steps of a walk to a file.
@@ -47,16 +56,7 @@ fn put_list<P: Matroid, R: TieRule>(
     steps: u64,
     lamps: u64,
 ) -> Result<usize, Unwritten> {
-    // No map_err: the prover does not cover a closure that takes the lent buffer.
-    let mut file = match begin(buffer, n, walk.look().present) {
-        Ok(file) => file,
-        Err(rejected) => {
-            return Err(Unwritten {
-                why: rejected.why,
-                before: 0,
-            });
-        }
-    };
+    let mut file = begin(buffer, n, walk.look().present)?;
     add_exchanges(&mut file, walk, steps)?;
     let total = walk.look().total;
     let mut totals = file.total(Total::Shift(total.across, total.along));

@@ -13,7 +13,7 @@ mod tests {
     use measure::Shifts;
     use std::test::Fail;
     use tie_rule::TieRule;
-    use walk::{Parts, Walk};
+    use walk::Walk;
 
     #[test]
     fn takes_the_favourite_or_the_closest(rt: HostRuntime) {
@@ -38,12 +38,7 @@ mod tests {
         let _ = walk.advance();
         let third = walk.look().present;
         let last = walk.advance();
-        let Parts {
-            matroid: _,
-            rule: _,
-            measure: _,
-            view,
-        } = walk.close();
+        let view = walk.close().view;
         assert_eq!(rt; first, 0b011);
         assert_eq!(rt; second, 0b110);
         assert_eq!(rt; third, 0b101);

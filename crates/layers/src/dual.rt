@@ -2,11 +2,10 @@ ghost use Rattle.std.specs.Prelude.{◌≡◌, ℕ, true, ◌↔◌};
 ghost use Rattle.layer_laws.specs.Layers.{BaseOutside, dual};
 ghost use Rattle.layer_laws.proofs.Dual.{dual_is, dual_means};
 
-use crate::joins::none_joins;
 use crate::kind::LayerKind;
 use crate::layer::Layer;
 use label_words::full_to;
-use matroid::{Matroid, greedy};
+use matroid::{Matroid, greedy, none_joins};
 
 /// The kind of layer whose bases are the complements of the bases below.
 #[derive(Clone, Copy, Debug)]

@@ -3,7 +3,6 @@
 #![tactic(auto)]
 
 mod dual;
-mod joins;
 mod kind;
 mod layer;
 mod minor;

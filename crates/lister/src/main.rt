@@ -8,7 +8,7 @@ use roll::Roll;
 use std::io;
 use std::io::{BufWriter, Write};
 use survey_walk::{SurveyWalk, walk_of};
-use walk::{Parts, Stop};
+use walk::Stop;
 
 /// How much of the input is read; no lawful survey is longer.
 const MOST_INPUT: usize = 4096;
@@ -65,12 +65,7 @@ fn run(rt: &HostRuntime) -> anyhow::Result<()> {
     match walk_of(&buffer[0..n]) {
         Ok(mut walk) => {
             let written = write_all(&mut out, &mut walk);
-            let Parts {
-                matroid: _,
-                rule: _,
-                measure: _,
-                view: _,
-            } = walk.close();
+            let _ = walk.close();
             Ok(written?)
         }
         Err(refusal) => {

@@ -1,6 +1,6 @@
 ghost use Rattle.measure.specs.Words.{word_opposite, word_sum, word_with, word_zero, words_of};
-ghost use Rattle.std.specs.Prelude.{◌≡◌, ◌<◌, [], ◌∷◌, ◌++◌, length, MatchResult};
-ghost use Rattle.labels.specs.Sets.{limit};
+ghost use Rattle.entries.specs.Table.{Adds};
+ghost use Rattle.std.specs.Prelude.{◌≡◌};
 ghost use Rattle.measure.specs.Flips.{words_group};
 
 use crate::group::Group;
@@ -35,12 +35,7 @@ impl Group for Word {
 impl Words {
     /// Adds the word of the next label. Refused, with nothing changed, if there can be no such label.
     pub fn add(&mut self, bits: u64) -> Result<(), EntryRefusal>
-        ensures { MatchResult result
-            (λ _. (length (words_of self.old) < limit)
-            × (words_of self.new ≡ words_of self.old ++ word_with bits ∷ []))
-            (λ e. (length (words_of self.old) ≡ limit)
-            × (e ≡ EntryRefusal.TooManyLabels)
-            × (self.new ≡ self.old)) }
+        ensures { Adds words_of self.old (word_with bits) result self.new }
     {
         self.table.add(Word { bits })
     }

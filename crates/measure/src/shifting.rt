@@ -1,6 +1,6 @@
 ghost use Rattle.measure.specs.Shifts.{entries_of, shift_of, shift_opposite, shift_sum, shift_zero};
-ghost use Rattle.std.specs.Prelude.{◌≡◌, ◌<◌, [], ◌∷◌, ◌++◌, length, MatchResult};
-ghost use Rattle.labels.specs.Sets.{limit};
+ghost use Rattle.entries.specs.Table.{Adds};
+ghost use Rattle.std.specs.Prelude.{◌≡◌};
 ghost use Rattle.measure.specs.Group.{shifts_group};
 
 use crate::group::Group;
@@ -42,12 +42,7 @@ impl Group for Shift {
 impl Shifts {
     /// Adds the shift of the next label. Refused, with nothing changed, if there can be no such label.
     pub fn add(&mut self, across: i64, along: i64) -> Result<(), EntryRefusal>
-        ensures cases { MatchResult result
-            (λ _. (length (entries_of self.old) < limit)
-            × (entries_of self.new ≡ entries_of self.old ++ shift_of across along ∷ []))
-            (λ e. (length (entries_of self.old) ≡ limit)
-            × (e ≡ EntryRefusal.TooManyLabels)
-            × (self.new ≡ self.old)) }
+        ensures cases { Adds entries_of self.old (shift_of across along) result self.new }
         ensures same { ((shift_of across along).across ≡ across) × ((shift_of across along).along ≡ along) }
     {
         self.table.add(Shift { across, along })

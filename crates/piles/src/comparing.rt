@@ -5,13 +5,13 @@ use matroid::{Matroid, is_base, start};
 use measure::Measure;
 use std::io::Write;
 use tie_rule::TieRule;
-use walk::{Parts, View, Walk};
+use walk::{Parts, Walk};
 
 /// The highest label that a word can hold.
 const HIGHEST: u8 = 64;
 
 /// What a walk is called, and how it begins. A set is a word, label `e` at bit `e - 1`.
-#[derive(Clone, Copy)]
+#[derive(Clone, Copy, Debug)]
 pub struct Case {
     /// The matroid at the bottom.
     pub kind: &'static str,
@@ -21,20 +21,14 @@ pub struct Case {
     pub offered: u64,
 }
 
-/// What is left of a walk that went to its end.
-pub struct Ended<P, V> {
-    /// The matroid, as it was.
-    pub matroid: P,
-    /// The walk's five fields at its end.
-    pub view: View<V>,
-}
-
-/// How many of the words below `words` are bases.
-fn bases_below<P: Matroid>(matroid: &P, words: u64) -> u64 {
+/// How many of the words below `words` are bases that are wanted.
+fn bases_below<P: Matroid, F: Fn(u64) -> bool>(matroid: &P, words: u64, wanted: F) -> u64
+    requires { F.IsAlwaysCallable wanted }
+{
     let mut found: u64 = 0;
     for set in 0..words {
-        if is_base(matroid, set) {
-            found += 1;
+        if wanted(set) && is_base(matroid, set) {
+            found = found.saturating_add(1);
         }
     }
     found
@@ -46,35 +40,12 @@ fn is_ahead(set: u64, first: u64, active: u64) -> bool {
     set == first || contains(active, highest)
 }
 
-/// How many of the words below `words` are bases that are ahead of `first`.
-fn ahead_below<P: Matroid>(matroid: &P, words: u64, first: u64, active: u64) -> u64 {
-    let mut found: u64 = 0;
-    for set in 0..words {
-        if is_ahead(set, first, active) && is_base(matroid, set) {
-            found += 1;
-        }
-    }
-    found
-}
-
-/// Advances to the end.
-fn finish<P: Matroid, R: TieRule, M: Measure>(walk: &mut Walk<P, R, M>) {
+/// Walks to the end, and takes the walk apart.
+pub fn walked<P: Matroid, R: TieRule, M: Measure>(
+    mut walk: Walk<P, R, M>,
+) -> Parts<P, R, M, M::Value> {
     while walk.advance().is_some() {}
-}
-
-/// Walks to the end.
-pub fn walked<P: Matroid, R: TieRule + Drop, M: Measure + Drop>(
-    begun: Walk<P, R, M>,
-) -> Ended<P, M::Value> {
-    let mut walk = begun;
-    finish(&mut walk);
-    let Parts {
-        matroid,
-        rule: _,
-        measure: _,
-        view,
-    } = walk.close();
-    Ended { matroid, view }
+    walk.close()
 }
 
 /// The number of words that a matroid's sets are among.
@@ -110,8 +81,8 @@ pub fn compare<W: Write, P: Matroid + Drop, R: TieRule + Drop, M: Measure + Drop
     rule: R,
     measure: M,
 ) -> anyhow::Result<P> {
-    let bases = bases_below(&matroid, words_of(&matroid));
-    let Ended { matroid, view } = walked(Walk::begin(
+    let bases = bases_below(&matroid, words_of(&matroid), |_| true);
+    let Parts { matroid, view, .. } = walked(Walk::begin(
         matroid,
         rule,
         measure,
@@ -133,8 +104,8 @@ pub fn compare_part<W: Write, P: Matroid + Drop, R: TieRule + Drop, M: Measure +
     measure: M,
 ) -> anyhow::Result<P> {
     let first = start(&matroid, case.offered);
-    let ahead = ahead_below(&matroid, words_of(&matroid), first, opened);
-    let Ended { matroid, view } = walked(Walk::begin(matroid, rule, measure, case.offered, opened));
+    let ahead = bases_below(&matroid, words_of(&matroid), |set| is_ahead(set, first, opened));
+    let Parts { matroid, view, .. } = walked(Walk::begin(matroid, rule, measure, case.offered, opened));
     write_pair(out, case, ahead, "bases ahead", view.count)?;
     Ok(matroid)
 }

@@ -1,19 +1,14 @@
 //! The matroids that the layers lie over.
-use anyhow::anyhow;
+use anyhow::Context;
 use binary_matroid::Binary;
 use graphic::Graphic;
 use partition::{CLASSES, Partition};
 
 /// The graph with these edges.
 pub fn graph_of(points: u8, edges: &[(u8, u8)]) -> anyhow::Result<Graphic> {
-    let Ok(empty) = Graphic::new(points) else {
-        return Err(anyhow!("the number of points is refused"));
-    };
-    let mut graphic = empty;
+    let mut graphic = Graphic::new(points).context("the number of points is refused")?;
     for (a, b) in edges {
-        let Ok(()) = graphic.add(*a, *b) else {
-            return Err(anyhow!("an edge is refused"));
-        };
+        graphic.add(*a, *b).context("an edge is refused")?;
     }
     Ok(graphic)
 }
@@ -22,23 +17,16 @@ pub fn graph_of(points: u8, edges: &[(u8, u8)]) -> anyhow::Result<Graphic> {
 pub fn columns_of(columns: &[u64]) -> anyhow::Result<Binary> {
     let mut binary = Binary::new();
     for column in columns {
-        let Ok(()) = binary.add(*column) else {
-            return Err(anyhow!("a column is refused"));
-        };
+        binary.add(*column).context("a column is refused")?;
     }
     Ok(binary)
 }
 
 /// The partition matroid with these limits, and with the labels in these classes.
 pub fn classes_of(limits: [u8; CLASSES], classes: &[u8]) -> anyhow::Result<Partition> {
-    let Ok(empty) = Partition::new(limits) else {
-        return Err(anyhow!("a limit is refused"));
-    };
-    let mut partition = empty;
+    let mut partition = Partition::new(limits).context("a limit is refused")?;
     for class in classes {
-        let Ok(()) = partition.add(*class) else {
-            return Err(anyhow!("a class is refused"));
-        };
+        partition.add(*class).context("a class is refused")?;
     }
     Ok(partition)
 }

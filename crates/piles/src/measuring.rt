@@ -1,7 +1,7 @@
 //! Each rule with each measure over one pile, and totals that are worked out by hand.
-use crate::comparing::{Case, Ended, compare, walked};
+use crate::comparing::{Case, compare, walked};
 use crate::kinds::{graph_of, nine_columns};
-use anyhow::anyhow;
+use anyhow::Context;
 use binary_matroid::Binary;
 use graphic::Graphic;
 use layers::{Dual, Truncation};
@@ -20,9 +20,7 @@ const BRIDGED: [(u8, u8); 3] = [(1, 2), (2, 3), (2, 3)];
 fn words_of(entries: &[u64]) -> anyhow::Result<Words> {
     let mut words = Words::new();
     for bits in entries {
-        let Ok(()) = words.add(*bits) else {
-            return Err(anyhow!("a word is refused"));
-        };
+        words.add(*bits).context("a word is refused")?;
     }
     Ok(words)
 }
@@ -31,9 +29,7 @@ fn words_of(entries: &[u64]) -> anyhow::Result<Words> {
 fn shifts_of(entries: &[(i64, i64)]) -> anyhow::Result<Shifts> {
     let mut shifts = Shifts::new();
     for (across, along) in entries {
-        let Ok(()) = shifts.add(*across, *along) else {
-            return Err(anyhow!("a shift is refused"));
-        };
+        shifts.add(*across, *along).context("a shift is refused")?;
     }
     Ok(shifts)
 }
@@ -65,8 +61,10 @@ fn write_rule<W: Write, R: TieRule + Copy + Drop>(
 
 /// The total of the words over all bases of a graph, from the empty set.
 fn word_total<R: TieRule + Drop>(graph: Graphic, rule: R, words: Words) -> u64 {
-    let Ended { matroid: _, view } = walked(Walk::begin(graph, rule, words, 0, u64::MAX));
-    view.total.bits
+    walked(Walk::begin(graph, rule, words, 0, u64::MAX))
+        .view
+        .total
+        .bits
 }
 
 /// Writes totals of words and of shifts.
@@ -90,13 +88,7 @@ fn write_totals<W: Write>(out: &mut W) -> anyhow::Result<()> {
     )?;
     let graph = graph_of(3, &DOUBLED)?;
     let shifts = shifts_of(&[(10, 0), (0, 5), (-2, 1)])?;
-    let Ended { matroid: _, view } = walked(Walk::begin(
-        graph,
-        Turnabout::new(),
-        shifts,
-        0,
-        u64::MAX,
-    ));
+    let view = walked(Walk::begin(graph, Turnabout::new(), shifts, 0, u64::MAX)).view;
     writeln!(
         out,
         "triangle with an edge doubled, total: {} across, {} along",

@@ -1,5 +1,5 @@
 //! What is refused when labels are entered by hand.
-use anyhow::anyhow;
+use anyhow::Context;
 use binary_matroid::Binary;
 use entry::{EntryRefusal, MOST_POINTS};
 use graphic::Graphic;
@@ -23,14 +23,9 @@ fn write_entry<W: Write>(
 
 /// Edges: as many as there can be, and then one more, and some whose points are out of range.
 fn write_graphic<W: Write>(out: &mut W) -> anyhow::Result<()> {
-    let Ok(empty) = Graphic::new(MOST_POINTS) else {
-        return Err(anyhow!("the number of points is refused"));
-    };
-    let mut graphic = empty;
+    let mut graphic = Graphic::new(MOST_POINTS).context("the number of points is refused")?;
     for _ in 1..LIMIT {
-        let Ok(()) = graphic.add(1, 2) else {
-            return Err(anyhow!("an edge is refused"));
-        };
+        graphic.add(1, 2).context("an edge is refused")?;
     }
     write_entry(
         out,
@@ -54,14 +49,9 @@ fn write_graphic<W: Write>(out: &mut W) -> anyhow::Result<()> {
 
 /// Labels in classes, likewise.
 fn write_partition<W: Write>(out: &mut W) -> anyhow::Result<()> {
-    let Ok(empty) = Partition::new([LIMIT as u8; CLASSES]) else {
-        return Err(anyhow!("a limit is refused"));
-    };
-    let mut partition = empty;
+    let mut partition = Partition::new([LIMIT as u8; CLASSES]).context("a limit is refused")?;
     for _ in 1..LIMIT {
-        let Ok(()) = partition.add(1) else {
-            return Err(anyhow!("a class is refused"));
-        };
+        partition.add(1).context("a class is refused")?;
     }
     write_entry(out, "partition, 48th label, class 9", partition.add(9))?;
     write_entry(out, "partition, 48th label", partition.add(8))?;
@@ -75,9 +65,7 @@ fn write_partition<W: Write>(out: &mut W) -> anyhow::Result<()> {
 fn write_binary<W: Write>(out: &mut W) -> anyhow::Result<()> {
     let mut binary = Binary::new();
     for _ in 1..LIMIT {
-        let Ok(()) = binary.add(1) else {
-            return Err(anyhow!("a column is refused"));
-        };
+        binary.add(1).context("a column is refused")?;
     }
     write_entry(out, "binary, 48th label", binary.add(u64::MAX))?;
     write_entry(out, "binary, 49th label", binary.add(0))?;
@@ -88,9 +76,7 @@ fn write_binary<W: Write>(out: &mut W) -> anyhow::Result<()> {
 fn write_shifts<W: Write>(out: &mut W) -> anyhow::Result<()> {
     let mut shifts = Shifts::new();
     for _ in 1..LIMIT {
-        let Ok(()) = shifts.add(1, -1) else {
-            return Err(anyhow!("a shift is refused"));
-        };
+        shifts.add(1, -1).context("a shift is refused")?;
     }
     write_entry(out, "shifts, 48th label", shifts.add(i64::MIN, i64::MAX))?;
     write_entry(out, "shifts, 49th label", shifts.add(0, 0))?;
@@ -101,9 +87,7 @@ fn write_shifts<W: Write>(out: &mut W) -> anyhow::Result<()> {
 fn write_words<W: Write>(out: &mut W) -> anyhow::Result<()> {
     let mut words = Words::new();
     for _ in 1..LIMIT {
-        let Ok(()) = words.add(1) else {
-            return Err(anyhow!("a word is refused"));
-        };
+        words.add(1).context("a word is refused")?;
     }
     write_entry(out, "words, 48th label", words.add(u64::MAX))?;
     write_entry(out, "words, 49th label", words.add(0))?;

@@ -4,7 +4,7 @@ use graphic::Graphic;
 use measure::Shifts;
 use survey_walk::SurveyWalk;
 use tie_rule::Closest;
-use walk::{Parts, Walk};
+use walk::Walk;
 
 /// Two points that an edge joins.
 pub type Pair = (u8, u8);
@@ -38,11 +38,9 @@ const SHIFTS: [(i64, i64); 3] = [(10, 0), (0, 5), (-2, 1)];
 
 /// The graph with these edges.
 pub fn graph_of(points: u8, edges: &[Pair]) -> anyhow::Result<Graphic> {
-    let mut graphic = Graphic::new(points)
-        .ok()
-        .context("the number of points is refused")?;
+    let mut graphic = Graphic::new(points).context("the number of points is refused")?;
     for (a, b) in edges {
-        graphic.add(*a, *b).ok().context("an edge is refused")?;
+        graphic.add(*a, *b).context("an edge is refused")?;
     }
     Ok(graphic)
 }
@@ -52,7 +50,7 @@ pub fn complete(points: u8) -> anyhow::Result<Graphic> {
     let mut graphic = graph_of(points, &[])?;
     for last in 1..=points {
         for first in 1..last {
-            graphic.add(first, last).ok().context("a pair is refused")?;
+            graphic.add(first, last).context("a pair is refused")?;
         }
     }
     Ok(graphic)
@@ -62,10 +60,7 @@ pub fn complete(points: u8) -> anyhow::Result<Graphic> {
 fn shifts() -> anyhow::Result<Shifts> {
     let mut shifts = Shifts::new();
     for (across, along) in &SHIFTS {
-        shifts
-            .add(*across, *along)
-            .ok()
-            .context("a shift is refused")?;
+        shifts.add(*across, *along).context("a shift is refused")?;
     }
     Ok(shifts)
 }
@@ -86,11 +81,6 @@ pub(crate) fn during<T, F: FnOnce(&mut SurveyWalk) -> T>(mut walk: SurveyWalk, w
     requires { F.IsAlwaysCallable work }
 {
     let told = work(&mut walk);
-    let Parts {
-        matroid: _,
-        rule: _,
-        measure: _,
-        view: _,
-    } = walk.close();
+    let _ = walk.close();
     told
 }

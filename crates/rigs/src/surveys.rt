@@ -8,7 +8,6 @@ use std::alloc::Global;
 use std::io::Write;
 use std::{fmt, io};
 use survey_walk::walk_of;
-use walk::Parts;
 
 /// What a survey is called, and its text.
 type Case = (&'static str, &'static [u8]);
@@ -38,12 +37,7 @@ const POINTS: u8 = 11;
 fn write_opening<W: Write>(out: &mut W, name: &str, text: &[u8]) -> io::Result<()> {
     match walk_of(text) {
         Ok(walk) => {
-            let Parts {
-                matroid,
-                rule: _,
-                measure: _,
-                view: _,
-            } = walk.close();
+            let matroid = walk.close().matroid;
             writeln!(
                 out,
                 "survey, {name}: {} points, {} labels, rank {}",

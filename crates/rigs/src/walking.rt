@@ -75,7 +75,7 @@ pub fn write_sets<W: Write>(out: &mut W, walk: &mut SurveyWalk) -> io::Result<()
 
 /// Advances to the end, and answers how many sets were handed out on the way.
 pub fn rest_of(walk: &mut SurveyWalk) -> u64
-    ensures { walk.new.count ≡ walk.old.count + result }
+    ensures { walk.new.view.count ≡ walk.old.view.count + result }
 {
     let mut more: u64 = 0;
     while walk.advance().is_some() {

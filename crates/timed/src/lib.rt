@@ -8,7 +8,7 @@ use layers::{Dual, Minor, Truncation};
 use matroid::Matroid;
 use measure::Shifts;
 use tie_rule::Closest;
-use walk::{Exchange, Parts, Walk};
+use walk::{Exchange, Walk};
 
 /// Spreads the bits of a digest.
 const PRIME: u64 = 1099511628211;
@@ -49,7 +49,7 @@ fn run<P: Matroid + Drop>(matroid: P, most: u64) -> Outcome {
         };
         digest = digested(digest, x);
     }
-    let Parts { view, .. } = walk.close();
+    let view = walk.close().view;
     Outcome {
         count: view.count,
         digest,

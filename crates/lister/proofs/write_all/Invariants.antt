@@ -4,4 +4,4 @@ use Rattle.lister.proofs.write_all.Given as goal
 
 -- each batch but the last raises the count
 abbrev pub decreases-loop-stop : goal.decreases-loop-stop
-decreases-loop-stop g l = 2 ^ limit - l.walk.count
+decreases-loop-stop g l = 2 ^ limit - l.walk.view.count
