@@ -28,7 +28,7 @@ fn bases_below<P: Matroid, F: Fn(u64) -> bool>(matroid: &P, words: u64, wanted: 
     let mut found: u64 = 0;
     for set in 0..words {
         if wanted(set) && is_base(matroid, set) {
-            found = found.saturating_add(1);
+            found += 1;
         }
     }
     found
@@ -104,8 +104,18 @@ pub fn compare_part<W: Write, P: Matroid + Drop, R: TieRule + Drop, M: Measure +
     measure: M,
 ) -> anyhow::Result<P> {
     let first = start(&matroid, case.offered);
-    let ahead = bases_below(&matroid, words_of(&matroid), |set| is_ahead(set, first, opened));
-    let Parts { matroid, view, .. } = walked(Walk::begin(matroid, rule, measure, case.offered, opened));
+    let ahead = bases_below(
+        &matroid,
+        words_of(&matroid),
+        |set| is_ahead(set, first, opened),
+    );
+    let Parts { matroid, view, .. } = walked(Walk::begin(
+        matroid,
+        rule,
+        measure,
+        case.offered,
+        opened,
+    ));
     write_pair(out, case, ahead, "bases ahead", view.count)?;
     Ok(matroid)
 }
