@@ -39,6 +39,7 @@ pub fn is_independent<M: BinaryMatrix>(matrix: &M, set: u64) -> bool
     if set >> matrix.width() != 0 {
         return false;
     }
+    // One place for each digit of a word, and never another number of them; nothing here may ask for memory.
     let mut pivots = [0u64; PLACES];
     for label in labels_of(set) {
         if !join(&mut pivots, matrix.column(label)) {

@@ -49,6 +49,7 @@ fn write_verdict<W: Write>(out: &mut W, file: &[u8]) -> anyhow::Result<()> {
 }
 
 fn run(rt: &HostRuntime) -> anyhow::Result<()> {
+    // A fixed buffer, so that no input takes more memory than this.
     let mut buffer = [0u8; ROOM];
     let n = take_in(rt, &mut buffer)?;
     if n > MOST_INPUT {

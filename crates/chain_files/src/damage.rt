@@ -8,6 +8,7 @@ const CHANGES: [u8; 3] = [0x01, 0x04, 0xff];
 
 /// Writes what becomes of a file that is cut off.
 fn write_cut<W: Write>(out: &mut W, file: &[u8]) -> io::Result<()> {
+    // By length: each front of the file is read, and its length is printed.
     for i in 0..file.len() {
         write!(out, "cut to {i} bytes: ")?;
         write_verdict(out, &file[..i])?;
@@ -17,6 +18,7 @@ fn write_cut<W: Write>(out: &mut W, file: &[u8]) -> io::Result<()> {
 
 /// Writes what becomes of a file that one byte is changed in.
 fn write_changed<W: Write>(out: &mut W, file: &mut [u8], change: u8) -> io::Result<()> {
+    // By place: each byte is changed where it stands, and its place is printed.
     for i in 0..file.len() {
         let was = file[i];
         file[i] = was ^ change;
@@ -29,6 +31,7 @@ fn write_changed<W: Write>(out: &mut W, file: &mut [u8], change: u8) -> io::Resu
 
 /// Writes the lines of all damages.
 pub fn write_damages<W: Write>(out: &mut W) -> anyhow::Result<()> {
+    // A fixed buffer, as a writer's caller has it.
     let mut buffer = [0u8; ROOM];
     let length = triangle(&mut buffer)?.min(ROOM);
     write_cut(out, &buffer[..length])?;

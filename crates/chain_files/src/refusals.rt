@@ -6,7 +6,7 @@ use std::io;
 use std::io::Write;
 
 /// Labels, start set and room of a file that is begun.
-#[derive(Clone, Copy)]
+#[derive(Clone, Copy, Debug, PartialEq, Eq)]
 struct Beginning {
     n: u8,
     start: u64,
@@ -75,6 +75,7 @@ const SWAPS: [Swap; 8] = [
 
 /// Writes whether a file was begun.
 fn write_beginning<W: Write>(out: &mut W, b: Beginning) -> io::Result<()> {
+    // A fixed buffer, of which each beginning gets a part.
     let mut buffer = [0xaau8; ROOM];
     let room = b.room.min(ROOM);
     write!(out, "{} labels, start {}, room {room}: ", b.n, b.start)?;
@@ -85,6 +86,7 @@ fn write_beginning<W: Write>(out: &mut W, b: Beginning) -> io::Result<()> {
 }
 
 /// Writes what a call of a writer answers.
+// The trial of piles prints entries alike; a crate for both would be longer than they are.
 fn write_answer<W: Write>(out: &mut W, answer: Result<(), WriterRefusal>) -> io::Result<()> {
     match answer {
         Ok(()) => writeln!(out, "written"),

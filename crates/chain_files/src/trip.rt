@@ -20,7 +20,7 @@ pub const ROOM: usize = 512;
 const STEPS: u32 = 1000;
 
 /// A survey, and what it is called.
-#[derive(Clone, Copy)]
+#[derive(Clone, Copy, Debug, PartialEq, Eq)]
 struct Rig {
     name: &'static str,
     text: &'static [u8],
@@ -147,6 +147,7 @@ fn list_of(rig: Rig, totals: bool, buffer: &mut [u8]) -> anyhow::Result<usize> {
 
 /// Writes what became of a rig's list, with or without totals.
 fn write_trip<W: Write>(out: &mut W, rig: Rig, totals: bool) -> anyhow::Result<()> {
+    // A fixed buffer, as a writer's caller has it.
     let mut buffer = [0u8; ROOM];
     let length = list_of(rig, totals, &mut buffer)?;
     writeln!(out, "{}: {length} bytes", rig.name)?;

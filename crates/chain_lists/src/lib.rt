@@ -44,6 +44,7 @@ pub enum Total {
 /// Which kinds of totals a list has.
 #[derive(Clone, Copy, Debug, PartialEq, Eq)]
 pub struct TotalKinds {
+    // Flags and no list: there are two kinds of totals, and a file has each once at most.
     pub shift: bool,
     pub lamp: bool,
 }
@@ -83,6 +84,7 @@ impl Error for UnknownKind {}
 
 impl Kind {
     /// The number that stands in a record of this kind.
+    // The format's own number; the type is the enum, and `try_from` goes the other way.
     pub fn number(self) -> u16
         ensures { result ≡ kind_number self }
     {
@@ -96,6 +98,7 @@ impl Kind {
     }
 
     /// The length that stands in a record of this kind: of the kind's number and the body.
+    // A column of the format's table beside `number`, not the same column.
     pub fn length(self) -> u32
         ensures { result ≡ kind_length self }
     {

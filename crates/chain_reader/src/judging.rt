@@ -13,7 +13,7 @@ use chain_lists::{Kind, Spot, Swap, Total, TotalKinds, is_lawful_head};
 use chain_records::Record;
 
 /// What a record says, and the stage after it.
-#[derive(Clone, Copy)]
+#[derive(Clone, Copy, Debug, PartialEq, Eq)]
 pub(crate) struct Step {
     pub entry: Entry,
     pub stage: Stage,

@@ -3,7 +3,7 @@ use chain_lists::TotalKinds;
 use chain_records::Records;
 
 /// What was read so far of a list.
-#[derive(Clone, Copy)]
+#[derive(Clone, Copy, Debug, PartialEq, Eq)]
 pub struct Progress {
     pub(crate) n: u8,
     pub(crate) present: u64,
@@ -11,7 +11,7 @@ pub struct Progress {
 }
 
 /// How far a reader is.
-#[derive(Clone, Copy)]
+#[derive(Clone, Copy, Debug, PartialEq, Eq)]
 pub enum Stage {
     Nothing,
     SoFar(Progress),

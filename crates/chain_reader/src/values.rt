@@ -22,7 +22,7 @@ pub enum Entry {
 }
 
 /// A record, as a part of the file, and what it says.
-#[derive(Clone, Copy)]
+#[derive(Clone, Copy, Debug)]
 pub struct Part<'a> {
     pub record: Record<'a>,
     pub entry: Entry,
@@ -85,6 +85,7 @@ impl Error for ListFault {}
 
 impl ListFault {
     /// The number that this fault is known by.
+    // A number for output alone: the type is the enum.
     pub fn number(self) -> u8
         ensures { result ≡ fault_number (fault_of self) }
     {

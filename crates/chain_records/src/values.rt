@@ -6,7 +6,7 @@ ghost use Rattle.std.specs.Prelude.{◌≡◌};
 use chain_lists::{Kind, Spot};
 
 /// A record, as a part of the file.
-#[derive(Clone, Copy)]
+#[derive(Clone, Copy, Debug)]
 pub struct Record<'a> {
     pub kind: Kind,
     /// All of its bytes.
@@ -27,6 +27,7 @@ pub enum RecordFault {
 
 impl RecordFault {
     /// The number that this fault is known by.
+    // A number for output alone: the type is the enum.
     pub fn number(self) -> u8
         ensures { result ≡ fault_number (fault_of self) }
     {

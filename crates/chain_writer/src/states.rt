@@ -6,6 +6,7 @@ use chain_lists::TotalKinds;
 /// A file that is being written into the caller's buffer, in the state `S`.
 #[derive(Drop)]
 pub struct Writer<'a, S> {
+    // The caller lends the buffer, since nothing here may ask for memory; so a place stands beside it.
     pub(crate) out: &'a mut [u8],
     pub(crate) at: usize,
     pub(crate) count: u64,
@@ -13,7 +14,7 @@ pub struct Writer<'a, S> {
 }
 
 /// The labels of a file and its last set.
-#[derive(Clone, Copy)]
+#[derive(Clone, Copy, Debug, PartialEq, Eq)]
 pub struct Listing {
     pub(crate) n: u8,
     pub(crate) present: u64,
@@ -29,6 +30,7 @@ pub type Totals<'a> = Writer<'a, TotalKinds>;
 #[derive(Drop)]
 pub struct Written<'a> {
     pub out: &'a mut [u8],
+    // The whole buffer goes back to the lender, so the file's length stands beside it.
     pub length: usize,
 }
 

@@ -16,6 +16,7 @@ const HELD_BACK: usize = 50;
 
 impl WriterRefusal {
     /// The number that this refusal is known by.
+    // A number for output alone: the type is the enum.
     pub fn number(self) -> u8
         ensures { result ≡ refusal_number self }
     {

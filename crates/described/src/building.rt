@@ -42,6 +42,7 @@ impl Buttons {
 impl Loads {
     /// The limits of all classes: 0 for a class that has none. More limits than classes are refused.
     fn class_limits(&self) -> Result<[u8; CLASSES], EntryRefusal> {
+        // An array: a partition takes one limit for each class.
         let mut limits = [0; CLASSES];
         limits
             .get_mut(..self.limits.len())

@@ -73,6 +73,7 @@ pub fn write_file<W: Write, P: Matroid, R: TieRule>(
     steps: u64,
     lamps: u64,
 ) -> io::Result<()> {
+    // A fixed buffer: a list too long for it is to be refused, which is shown.
     let mut buffer = [0u8; ROOM];
     match put_list(&mut buffer, n, walk, steps, lamps) {
         Ok(length) => {

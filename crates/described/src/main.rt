@@ -43,6 +43,7 @@ fn write_plan<W: Write, P: Matroid + Drop>(
 /// Writes the list of a rig.
 fn write_rig<W: Write>(out: &mut W, rig: Rig) -> anyhow::Result<()> {
     let Rig { plan, course } = rig;
+    // A match, since each arm makes another type of matroid.
     match plan {
         Plan::Seams(seams) => write_plan(out, seams.matroid(), course),
         Plan::Buttons(buttons) => write_plan(out, buttons.matroid(), course),
@@ -51,6 +52,7 @@ fn write_rig<W: Write>(out: &mut W, rig: Rig) -> anyhow::Result<()> {
 }
 
 fn run(rt: &HostRuntime) -> anyhow::Result<()> {
+    // A fixed buffer, so that no input takes more memory than this.
     let mut buffer = [0u8; ROOM];
     let n = take_in(rt, &mut buffer)?;
     match read_rig(&buffer[0..n], rt.alloc()) {

@@ -13,6 +13,7 @@ fn write_whole<W: Write, P: Matroid + Drop>(
     matroid: P,
     course: Course,
 ) -> io::Result<()> {
+    // A match, since each arm makes another type of walk.
     match course.rule {
         Rule::Closest => write_walks(out, matroid, Closest, course),
         Rule::Furthest => write_walks(out, matroid, Furthest, course),
@@ -26,6 +27,7 @@ fn write_upper<W: Write, P: Matroid + Drop>(
     matroid: P,
     course: Course,
 ) -> io::Result<()> {
+    // A match, since each arm makes another type of pile; the functions for the two layers differ in what comes above.
     match course.upper {
         None => write_whole(out, matroid, course),
         Some(Layer::Dual) => write_whole(out, Dual::new(matroid), course),
@@ -44,6 +46,7 @@ pub fn write_pile<W: Write, P: Matroid + Drop>(
     matroid: P,
     course: Course,
 ) -> io::Result<()> {
+    // As above: a layer over a layer is a type again, so each depth has a function.
     match course.lower {
         None => write_whole(out, matroid, course),
         Some(Layer::Dual) => write_upper(out, Dual::new(matroid), course),

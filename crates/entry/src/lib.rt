@@ -21,6 +21,7 @@ pub enum EntryRefusal {
 
 impl EntryRefusal {
     /// The number that this refusal is known by.
+    // A number for output alone: the type is the enum.
     pub fn number(self) -> u8
         ensures { result ≡ entry_number self }
     {

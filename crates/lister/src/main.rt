@@ -36,13 +36,13 @@ fn write_all<W: Write>(out: &mut W, walk: &mut SurveyWalk) -> io::Result<()> {
         set: start.present,
     };
     writeln!(out, "{line}")?;
+    // A fixed buffer, so that memory stays flat however long the list.
     let mut sets = [0u64; BATCH];
     loop {
         let first = walk.look().count.saturating_add(1);
         let mut roll = Roll::new(&mut sets);
         let (_, stop) = walk.list(&mut roll);
-        let many = roll.len();
-        write_chains(out, &sets[..many], first)?;
+        write_chains(out, roll.entries(), first)?;
         if stop == Stop::Finished {
             break;
         }
@@ -58,6 +58,7 @@ fn write_all<W: Write>(out: &mut W, walk: &mut SurveyWalk) -> io::Result<()> {
 }
 
 fn run(rt: &HostRuntime) -> anyhow::Result<()> {
+    // A fixed buffer: no lawful survey is longer, and no input may take more memory than this.
     let mut buffer = [0u8; MOST_INPUT];
     let n = take_in(rt, &mut buffer)?;
     // A walk cannot be let go, and want of memory is met before there is one.

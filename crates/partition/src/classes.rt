@@ -14,6 +14,7 @@ pub const CLASSES: usize = 8;
 #[derive(Drop)]
 pub struct Partition {
     pub(crate) classes: Entries<u8>,
+    // All eight classes are there always, so that no length stands beside.
     pub(crate) rooms: [Room; CLASSES],
     ghost whole: { length rooms ≡ class_count },
     ghost masked: { Masked (values classes) (labels_by_class rooms) },

@@ -5,6 +5,7 @@ use graphic::Graphic;
 use partition::{CLASSES, Partition};
 
 /// The graph with these edges.
+// The trial of small rigs has these lines too; a crate for both would be longer than they are.
 pub fn graph_of(points: u8, edges: &[(u8, u8)]) -> anyhow::Result<Graphic> {
     let mut graphic = Graphic::new(points).context("the number of points is refused")?;
     for (a, b) in edges {

@@ -10,6 +10,7 @@ use std::io;
 use std::io::Write;
 
 /// Writes the line of an entry.
+// The trial of chain files prints answers alike; a crate for both would be longer than they are.
 fn write_entry<W: Write>(
     out: &mut W,
     what: &str,

@@ -20,8 +20,7 @@ where
     let mut roll = Roll::new(room);
     let (appended, stop) = walk.list(&mut roll);
     write!(out, "{appended} {}:", Shown(stop))?;
-    let many = roll.len();
-    for entry in &room[..many] {
+    for entry in roll.entries() {
         write!(out, " {}", Shown(*entry))?;
     }
     writeln!(out)

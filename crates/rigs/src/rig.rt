@@ -10,7 +10,7 @@ use walk::Walk;
 pub type Pair = (u8, u8);
 
 /// A graph, and how a walk on it begins. A set is a word, label `e` at bit `e - 1`.
-#[derive(Clone, Copy)]
+#[derive(Clone, Copy, Debug, PartialEq, Eq)]
 pub struct Rig {
     /// What it is called.
     pub name: &'static str,
@@ -37,6 +37,7 @@ pub const TRIANGLE: Rig = Rig {
 const SHIFTS: [(i64, i64); 3] = [(10, 0), (0, 5), (-2, 1)];
 
 /// The graph with these edges.
+// The trial of piles has these lines too; a crate for both would be longer than they are.
 pub fn graph_of(points: u8, edges: &[Pair]) -> anyhow::Result<Graphic> {
     let mut graphic = Graphic::new(points).context("the number of points is refused")?;
     for (a, b) in edges {

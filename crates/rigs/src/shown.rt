@@ -1,26 +1,23 @@
 //! How sets, shifts, exchanges and views are printed.
-use label_words::contains;
+use label_words::labels_of;
 use measure::Shift;
 use std::fmt;
 use walk::{Exchange, Stop, View};
 
-/// The highest label that a word can hold.
-const HIGHEST: u8 = 64;
-
 /// A value as it is printed here.
-#[derive(Clone, Copy)]
+#[derive(Clone, Copy, Debug)]
+// A wrapper, since the printed types are other crates' and numbers.
 pub struct Shown<T>(pub T);
 
 /// A set: its labels upwards, with nothing between; `none` where there is none.
+// The trial of chain files has these lines too; a crate for both would be longer than they are.
 impl fmt::Display for Shown<u64> {
     fn fmt<W: fmt::Write>(&self, f: &mut fmt::Formatter<W>) -> fmt::Result {
         if self.0 == 0 {
             return write!(f, "none");
         }
-        for label in 1..=HIGHEST {
-            if contains(self.0, label) {
-                write!(f, "{label}")?;
-            }
+        for label in labels_of(self.0) {
+            write!(f, "{label}")?;
         }
         Ok(())
     }

@@ -10,6 +10,7 @@ pub enum RollRefusal {
 
 impl RollRefusal {
     /// The number that this refusal is known by.
+    // A number for output alone: the type is the enum.
     pub fn number(self) -> u8
         ensures { result ≡ roll_number self }
     {

@@ -11,6 +11,7 @@ use crate::rule::TieRule;
 #[derive(Clone, Copy, Debug)]
 pub struct Turnabout {
     /// Whether the next choice takes the furthest candidate.
+    // A flag by itself: it is the whole state, and no value hangs on it.
     pub far: bool,
 }
 

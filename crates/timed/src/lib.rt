@@ -15,7 +15,7 @@ const PRIME: u64 = 1099511628211;
 
 /// How a walk ended.
 #[repr(C)]
-#[derive(Clone, Copy)]
+#[derive(Clone, Copy, Debug, PartialEq, Eq)]
 pub struct Outcome {
     /// How many sets were handed out.
     pub count: u64,
@@ -32,6 +32,7 @@ fn digested(digest: u64, x: Exchange) -> u64 {
 }
 
 /// What each label is worth.
+// The program for described rigs has the same five lines: it links nothing made for C.
 fn shifts() -> Shifts {
     let mut shifts = Shifts::new();
     for label in 1..=LIMIT as i64 {

@@ -9,6 +9,7 @@ ghost use Rattle.std.specs.Prelude.{◌≡◌};
 pub struct Exchange {
     pub high: u8,
     pub low: u8,
+    // A flag and no enum with labels in it: both labels are there either way, and the higher one is asked for most.
     pub came: bool,
 }
 
