@@ -2,7 +2,7 @@
 #![tactic(auto)]
 
 mod edge;
-mod entries;
+mod entering;
 mod graph;
 mod independence;
 
