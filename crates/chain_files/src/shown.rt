@@ -6,7 +6,7 @@ use std::fmt;
 
 /// A value as it is printed here.
 #[derive(Clone, Copy, Debug)]
-// A wrapper, since the printed types are other crates' and numbers.
+// A wrapper, since what is printed are numbers and types of other crates.
 pub struct Shown<T>(pub T);
 
 /// A set: its labels upwards, with nothing between; `none` where there is none.

@@ -98,7 +98,7 @@ impl Kind {
     }
 
     /// The length that stands in a record of this kind: of the kind's number and the body.
-    // A column of the format's table beside `number`, not the same column.
+    // Beside `number`, not in place of it: another column of the format's table.
     pub fn length(self) -> u32
         ensures { result ≡ kind_length self }
     {

@@ -27,7 +27,7 @@ pub enum RecordFault {
 
 impl RecordFault {
     /// The number that this fault is known by.
-    // A number for output alone: the type is the enum.
+    // A number for output alone, by a method that reads better than `From` where it is called: the type is the enum.
     pub fn number(self) -> u8
         ensures { result ≡ fault_number (fault_of self) }
     {

@@ -16,7 +16,7 @@ pub fn trip(buffer: &mut [u8], n: u8, start: u64, swap: Swap, word: u64) -> Opti
         (lawful_trip n start swap (length buffer.old) ≡ false)
         (λ s. (lawful_trip n start swap (length buffer.old) ≡ true) × Summarises s (trip_of n start swap word)) }
 {
-    // not `ok()?`: tried, and the check does not cover it where both sides hold the lent buffer
+    // Not `ok()?`: tried, and the check does not cover it, since both sides of the result hold the lent buffer.
     let Ok(mut file) = begin(buffer, n, start) else {
         return None;
     };

@@ -46,7 +46,7 @@ pub fn write_pile<W: Write, P: Matroid + Drop>(
     matroid: P,
     course: Course,
 ) -> io::Result<()> {
-    // As above: a layer over a layer is a type again, so each depth has a function.
+    // A match, since each arm makes another type of pile; a layer over a layer is a type again, so each depth has a function.
     match course.lower {
         None => write_whole(out, matroid, course),
         Some(Layer::Dual) => write_upper(out, Dual::new(matroid), course),

@@ -13,7 +13,7 @@ use walk::{Parts, Walk};
 const SPREAD: u64 = 11400714819323198485;
 
 /// What labels are worth in shifts.
-// The benchmark has the same five lines: it links no code of a trial program.
+// The benchmark has the same five lines; a crate for them would be longer than they are.
 fn shifts() -> Shifts {
     let mut shifts = Shifts::new();
     for label in 1..=LIMIT as i64 {

@@ -21,7 +21,7 @@ pub enum EntryRefusal {
 
 impl EntryRefusal {
     /// The number that this refusal is known by.
-    // A number for output alone: the type is the enum.
+    // A number for output alone, by a method that reads better than `From` where it is called: the type is the enum.
     pub fn number(self) -> u8
         ensures { result ≡ entry_number self }
     {

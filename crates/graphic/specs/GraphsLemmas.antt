@@ -1,5 +1,5 @@
 -- The graph that the code holds, by its labels.
-use Rattle.std.specs.Prelude.{◌≡◌, ℕ, zero, suc, ◌+◌, ◌<◌, ◌≤◌, Bool, true, false, cond, ◌⊎◌, List, [], ◌∷◌, ◌++◌, map, length, get_or, take, Some, None, Option, MatchOption, Ok, bit_xor, slice_get, slice_set, refl}
+use Rattle.std.specs.Prelude.{◌≡◌, ℕ, zero, suc, ◌+◌, ◌<◌, ◌≤◌, Bool, true, false, cond, ◌⊎◌, List, [], ◌∷◌, ◌++◌, map, length, get_or, take, Some, None, Option, MatchOption, Ok, bit_xor, ◌-◌, slice_get, slice_index_or, slice_set, refl}
 use Rattle.std.proofs.Common.{sym, ap, ◌∙◌, subst, inl, inr, add-one, arith, take-suc-set}
 use Rattle.std.specs.Option.{option_map}
 use Rattle.std.proofs.lemmas.Option.{slice_get_cases}
@@ -16,6 +16,14 @@ use Rattle.graphic.specs.declared.graph.Graphic.{Graphic}
 use Rattle.graphic.specs.Points.{in_range}
 use Rattle.graphic.specs.Graphs.{ends, first_end, second_end, ends_at, admitted}
 use Rattle.graphic.specs.Edges.{ends_of, graph}
+
+-- of tests alone
+in_range_tells : (n x : ℕ) → in_range n x ≡ true → (1 ≤ x) × (x ≤ n)
+in_range_tells n x h = (grind (arith, nat_tests), grind (arith, nat_tests))
+
+-- the answer of a test that comes first
+chosen : {A : Type 0} (b c : Bool) (x y : A) → b ≡ c → cond b x y ≡ cond c x y
+chosen b c x y e = ap (λ (t : Bool). cond t x y) e
 
 -- a loop at the point 1
 loop : Edge
@@ -37,18 +45,28 @@ module _ (g : Graphic) where
   pub graph_few : length (graph g) ≤ limit
   graph_few = omega (arith, graph_length, values_few g.edges)
 
-  -- an edge that there is
-  ends_read : (k : ℕ) (d : Edge) → k < length (values g.edges) → ends (graph g) (suc k) ≡ ends_of (get_or (values g.edges) k d)
-  ends_read k d l = get_or-map ends_of (values g.edges) k d (0, 0) l
+  -- by place: an edge that there is, and none
+  read_place : (k : ℕ) (d : Edge) → k < length (values g.edges) → ends (graph g) (suc k) ≡ ends_of (get_or (values g.edges) k d)
+  read_place k d l = get_or-map ends_of (values g.edges) k d (0, 0) l
 
-  ends_none : (k : ℕ) → length (values g.edges) ≤ k → ends (graph g) (suc k) ≡ (0, 0)
-  ends_none k l = get_or-eq_default (graph g) (0, 0) (omega (arith, graph_length))
+  none_place : (k : ℕ) → length (values g.edges) ≤ k → ends (graph g) (suc k) ≡ (0, 0)
+  none_place k l = get_or-eq_default (graph g) (0, 0) (omega (arith, graph_length))
+
+  -- by label: an edge as it is read, where d stands where the list has ended; and none
+  ends_read : (label : ℕ) (d : Edge) → 1 ≤ label → label ≤ length (values g.edges) → ends (graph g) label ≡ ends_of (slice_index_or (values g.edges) (label - 1) d)
+  ends_read zero d l h = absurd (omega arith)
+  ends_read (suc k) d l h =
+      read_place k d (omega arith) ∙ ap (λ (j : ℕ). ends_of (get_or (values g.edges) j d)) (let z : k ≡ suc k - 1 = omega arith in z)
+
+  ends_none : (label : ℕ) → (1 ≤ label → label ≤ length (values g.edges) → ⊥) → ends (graph g) label ≡ (0, 0)
+  ends_none zero f = refl
+  ends_none (suc k) f = none_place k (let n : (suc k ≤ length (values g.edges) → ⊥) = f (omega arith) in omega arith)
 
   pub joined : Joined (length (graph g)) (first_end (graph g)) (second_end (graph g))
   joined zero l h = absurd (omega arith)
   joined (suc k) l h =
       let d = get_or (values g.edges) k loop in
-      subst (λ (p : ℕ × ℕ). (1 ≤ p.0) × (1 ≤ p.1)) (sym (ends_read k loop (omega (arith, graph_length)))) (d.alow, d.blow)
+      subst (λ (p : ℕ × ℕ). (1 ≤ p.0) × (1 ≤ p.1)) (sym (read_place k loop (omega (arith, graph_length)))) (d.alow, d.blow)
 
   -- ---- what the code reads
 
@@ -62,7 +80,7 @@ module _ (g : Graphic) where
       go : ((x : Edge) × (k < length (values g.edges)) × (slice_get (values g.edges) k ≡ Some x) × (get_or (values g.edges) k x ≡ x))
           ⊎ ((length (values g.edges) ≤ k) × (slice_get (values g.edges) k ≡ None)) → option_map ends_of (slice_get (values g.edges) k) ≡ ends_at (graph g) (suc k)
       go (inl (x, l, q, r)) =
-          ap (option_map ends_of) q ∙ ap (λ (p : ℕ × ℕ). Some p) (ap ends_of (sym r) ∙ sym (ends_read k x l))
+          ap (option_map ends_of) q ∙ ap (λ (p : ℕ × ℕ). Some p) (ap ends_of (sym r) ∙ sym (read_place k x l))
           ∙ sym (at (suc k) true (let n = graph_length in grind (arith, nat_tests)))
       go (inr (l, q)) = ap (option_map ends_of) q ∙ sym (at (suc k) false (let n = graph_length in grind (arith, nat_tests)))
 
@@ -75,10 +93,28 @@ module _ (g : Graphic) where
           ⊎ ((length (values g.edges) ≤ k) × (slice_get (values g.edges) k ≡ None)) → c ≡ incidence (first_end (graph g)) (second_end (graph g)) (suc k)
       go (inl (x, l, q, r)) =
           subst (λ (o : Option Edge). MatchOption o (c ≡ 0) (λ e. c ≡ e.column)) q h ∙ x.joins
-          ∙ sym (ap (λ (p : ℕ × ℕ). bit_xor (single p.0) (single p.1)) (ends_read k x l ∙ ap ends_of r))
+          ∙ sym (ap (λ (p : ℕ × ℕ). bit_xor (single p.0) (single p.1)) (read_place k x l ∙ ap ends_of r))
       go (inr (l, q)) =
           subst (λ (o : Option Edge). MatchOption o (c ≡ 0) (λ e. c ≡ e.column)) q h
-          ∙ sym (ap (λ (p : ℕ × ℕ). bit_xor (single p.0) (single p.1)) (ends_none k l) ∙ xor_same (single 0))
+          ∙ sym (ap (λ (p : ℕ × ℕ). bit_xor (single p.0) (single p.1)) (none_place k l) ∙ xor_same (single 0))
+
+  pub ends_found : (label : ℕ) (d : Edge) → in_range (length (values g.edges)) label ≡ true
+      → Some (ends_of (slice_index_or (values g.edges) (label - 1) d)) ≡ ends_at (graph g) label
+  ends_found label d h =
+      let r = in_range_tells (length (values g.edges)) label h in
+      ap (λ (p : ℕ × ℕ). Some p) (sym (ends_read label d r.0 r.1))
+      ∙ sym (chosen (in_range (length (graph g)) label) true (Some (ends (graph g) label)) None (ap (λ (n : ℕ). in_range n label) graph_length ∙ h))
+
+  pub ends_missing : (label : ℕ) → in_range (length (values g.edges)) label ≡ false → None ≡ ends_at (graph g) label
+  ends_missing label h = sym (chosen (in_range (length (graph g)) label) false (Some (ends (graph g) label)) None (ap (λ (n : ℕ). in_range n label) graph_length ∙ h))
+
+  pub column_read : (label : ℕ) (d : Edge) → 1 ≤ label → label ≤ length (values g.edges)
+      → (get_or (values g.edges) (label - 1) d).column ≡ incidence (first_end (graph g)) (second_end (graph g)) label
+  column_read label d l h =
+      (get_or (values g.edges) (label - 1) d).joins ∙ sym (ap (λ (p : ℕ × ℕ). bit_xor (single p.0) (single p.1)) (ends_read label d l h))
+
+  pub column_none : (label : ℕ) → (1 ≤ label → label ≤ length (values g.edges) → ⊥) → 0 ≡ incidence (first_end (graph g)) (second_end (graph g)) label
+  column_none label f = sym (ap (λ (p : ℕ × ℕ). bit_xor (single p.0) (single p.1)) (ends_none label f) ∙ xor_same (single 0))
 
 -- what an entry makes
 

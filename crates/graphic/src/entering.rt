@@ -10,7 +10,6 @@ use entries::Entries;
 use entry::{EntryRefusal, MOST_POINTS};
 
 /// Whether `x` is one of 1 to `last`.
-// A function round the library's test, since a contract speaks of it by this name.
 fn in_range(last: u8, x: u8) -> bool
     ensures { result ≡ in_range last x }
 {

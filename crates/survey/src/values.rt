@@ -33,7 +33,7 @@ pub enum Fault {
 
 impl Fault {
     /// The number that the fault is reported by.
-    // A number for output alone: the type is the enum.
+    // A number for output alone, by a method that reads better than `From` where it is called: the type is the enum.
     pub fn number(self) -> u8
         ensures { result ≡ wrong_number (wrong_of self) }
     {

@@ -21,7 +21,7 @@ pub fn walk_of(text: &[u8]) -> Result<SurveyWalk, Refusal>
         (λ e. check text.now ≡ refused (wrong_of e.fault) e.row) }
 {
     let survey = read(text)?;
-    // A lawful survey's graph and shifts are never refused; `?` would make it one more way to fail.
+    // A lawful survey's graph and shifts are never refused; `?` would add a way to fail.
     let Ok(graphic) = graphic_of(&survey) else {
         unreachable()
     };

@@ -32,7 +32,7 @@ fn digested(digest: u64, x: Exchange) -> u64 {
 }
 
 /// What each label is worth.
-// The program for described rigs has the same five lines: it links nothing made for C.
+// The program for described rigs has the same five lines; a crate for them would be longer than they are.
 fn shifts() -> Shifts {
     let mut shifts = Shifts::new();
     for label in 1..=LIMIT as i64 {
@@ -77,8 +77,8 @@ fn binary_of(words: &[u64]) -> Option<Binary> {
     Some(binary)
 }
 
-/// Writes how the walk over a matroid ended, if there is one; answers whether there is.
-fn write<P: Matroid + Drop>(matroid: Option<P>, most: u64, outcome: &mut Outcome) -> bool {
+/// Writes how the walk over a matroid ended, if there is a matroid; answers whether there is.
+fn write_outcome<P: Matroid + Drop>(matroid: Option<P>, most: u64, outcome: &mut Outcome) -> bool {
     let Some(matroid) = matroid else {
         return false;
     };
@@ -89,13 +89,13 @@ fn write<P: Matroid + Drop>(matroid: Option<P>, most: u64, outcome: &mut Outcome
 /// A walk over the spanning trees of a graph.
 #[unsafe(no_mangle)]
 pub extern "C" fn timed_seams(points: u8, ends: &[u8], most: u64, outcome: &mut Outcome) -> bool {
-    write(graph_of(points, ends), most, outcome)
+    write_outcome(graph_of(points, ends), most, outcome)
 }
 
 /// A walk over the complements of the spanning trees.
 #[unsafe(no_mangle)]
 pub extern "C" fn timed_dual(points: u8, ends: &[u8], most: u64, outcome: &mut Outcome) -> bool {
-    write(graph_of(points, ends).map(Dual::new), most, outcome)
+    write_outcome(graph_of(points, ends).map(Dual::new), most, outcome)
 }
 
 /// The dual of a minor, capped.
@@ -106,11 +106,11 @@ fn pile(graphic: Graphic) -> Truncation<Dual<Minor<Graphic>>> {
 /// A walk over a pile of three layers.
 #[unsafe(no_mangle)]
 pub extern "C" fn timed_pile(points: u8, ends: &[u8], most: u64, outcome: &mut Outcome) -> bool {
-    write(graph_of(points, ends).map(pile), most, outcome)
+    write_outcome(graph_of(points, ends).map(pile), most, outcome)
 }
 
 /// A walk over the bases of a binary matroid.
 #[unsafe(no_mangle)]
 pub extern "C" fn timed_buttons(words: &[u64], most: u64, outcome: &mut Outcome) -> bool {
-    write(binary_of(words), most, outcome)
+    write_outcome(binary_of(words), most, outcome)
 }
