@@ -8,6 +8,7 @@
 #define LEAST_ROUNDS 5
 #define LEAST_TIME 3e8
 #define CUT 1000000ull
+#define RANDOM_RIGS 10
 
 struct rig {
     const char *name;
@@ -116,18 +117,28 @@ static bool differ(const struct outcome *a, const struct outcome *b)
         }                                                                            \
     } while (0)
 
-static bool report(const char *name, const struct outcome *proved, const struct outcome *plain, double p, double q, uint64_t questions)
+/* What a base cost, and how much was asked for it. */
+struct cost {
+    double bases, questions, proved, plain;
+};
+
+static bool compared(const char *name, const struct outcome *proved, const struct outcome *plain, double p, double q, uint64_t questions, struct cost *cost)
 {
     if (differ(proved, plain)) {
         printf("%s: the lists differ\n", name);
         return false;
     }
     double bases = (double)proved->count;
-    printf("%-34s %9llu %10.2f %10.1f %10.1f %8.2f\n", name, (unsigned long long)proved->count, (double)questions / bases, p / bases, q / bases, p / q);
+    *cost = (struct cost){bases, (double)questions / bases, p / bases, q / bases};
     return true;
 }
 
-static bool seams(const struct rig *r, uint64_t most, walk_on_seams *proved, walk_on_seams *plain)
+static void print_cost(const char *name, const struct cost *c)
+{
+    printf("%-34s %9.0f %10.2f %10.1f %10.1f %8.2f\n", name, c->bases, c->questions, c->proved, c->plain, c->proved / c->plain);
+}
+
+static bool measured(const struct rig *r, uint64_t most, walk_on_seams *proved, walk_on_seams *plain, struct cost *cost)
 {
     struct outcome a, b;
     double p, q;
@@ -136,7 +147,44 @@ static bool seams(const struct rig *r, uint64_t most, walk_on_seams *proved, wal
     TIMED(q, rounds, plain(r->points, r->ends, 2 * r->n, most, &b));
     asked = reference_asked() / rounds;
     TIMED(p, rounds, proved(r->points, r->ends, 2 * r->n, most, &a));
-    return report(r->name, &a, &b, p, q, asked);
+    return compared(r->name, &a, &b, p, q, asked, cost);
+}
+
+static bool seams(const struct rig *r, uint64_t most, walk_on_seams *proved, walk_on_seams *plain)
+{
+    struct cost cost;
+    if (!measured(r, most, proved, plain, &cost))
+        return false;
+    print_cost(r->name, &cost);
+    return true;
+}
+
+/* The mean over some random rigs of one size, which differ much among themselves; each counts alike. */
+static bool random_rigs(const char *name, int points, int seams, struct cost *mean)
+{
+    *mean = (struct cost){0};
+    for (int i = 0; i < RANDOM_RIGS; i++) {
+        struct rig r = sparse(name, points, seams);
+        struct cost cost;
+        if (!measured(&r, CUT, timed_seams, reference_seams, &cost))
+            return false;
+        mean->bases += cost.bases / RANDOM_RIGS;
+        mean->questions += cost.questions / RANDOM_RIGS;
+        mean->proved += cost.proved / RANDOM_RIGS;
+        mean->plain += cost.plain / RANDOM_RIGS;
+    }
+    print_cost(name, mean);
+    return true;
+}
+
+/* Random rigs of twice the labels, as dense. */
+static bool growth(void)
+{
+    struct cost small, large;
+    if (!random_rigs("ten random, 16 points, 24 seams", 16, 24, &small) || !random_rigs("ten random, 32 points, 48 seams", 32, 48, &large))
+        return false;
+    printf("a base at 48 labels costs %.2f times what it costs at 24\n", large.proved / small.proved);
+    return true;
 }
 
 static bool buttons(const char *name, int places, int labels)
@@ -145,13 +193,17 @@ static bool buttons(const char *name, int places, int labels)
     struct outcome a, b;
     double p, q;
     uint64_t rounds, asked;
+    struct cost cost;
     for (int i = 0; i < labels; i++)
         words[i] = random_number() & ((1ull << places) - 1);
     reference_asked();
     TIMED(q, rounds, reference_buttons(words, (size_t)labels, CUT, &b));
     asked = reference_asked() / rounds;
     TIMED(p, rounds, timed_buttons(words, (size_t)labels, CUT, &a));
-    return report(name, &a, &b, p, q, asked);
+    if (!compared(name, &a, &b, p, q, asked, &cost))
+        return false;
+    print_cost(name, &cost);
+    return true;
 }
 
 int main(void)
@@ -159,7 +211,6 @@ int main(void)
     bool fine = true;
     struct rig k7 = complete("complete rig of 7 points", 7), k8 = complete("complete rig of 8 points", 8);
     struct rig g34 = grid("grid 3x4", 3, 4), g44 = grid("grid 4x4", 4, 4), w12 = wheel("wheel of 12", 12);
-    struct rig s48 = sparse("random, 32 points, 48 seams", 32, 48), s24 = sparse("random, 16 points, 24 seams", 16, 24);
     struct rig d7 = complete("dual of the complete rig of 7", 7), p7 = complete("three layers over the rig of 7", 7);
     printf("%-34s %9s %10s %10s %10s %8s\n", "rig", "bases", "questions", "proved ns", "plain ns", "ratio");
     fine &= seams(&k7, UINT64_MAX, timed_seams, reference_seams);
@@ -167,10 +218,9 @@ int main(void)
     fine &= seams(&g34, UINT64_MAX, timed_seams, reference_seams);
     fine &= seams(&g44, UINT64_MAX, timed_seams, reference_seams);
     fine &= seams(&w12, UINT64_MAX, timed_seams, reference_seams);
-    fine &= seams(&s24, CUT, timed_seams, reference_seams);
-    fine &= seams(&s48, CUT, timed_seams, reference_seams);
     fine &= buttons("buttons, rank 20, 40 labels", 20, 40);
     fine &= seams(&d7, UINT64_MAX, timed_dual, reference_dual);
     fine &= seams(&p7, UINT64_MAX, timed_pile, reference_pile);
+    fine &= growth();
     return fine ? 0 : 1;
 }
