@@ -2,6 +2,7 @@
 #![tactic(auto)]
 
 ghost use Rattle.chain_lists.specs.Lists.{Marks, after, is_marked, kind_length, kind_number, kind_numbered, lawful_head, lawful_swap, total_kind};
+ghost use Rattle.chain_lists.specs.Text.{total_text, unknown_kind_text};
 ghost use Rattle.std.specs.Prelude.{◌≡◌, ℕ, ◌≤◌, List, true, [], ◌∷◌, ◌++◌, None, Some, MatchResult, bit_or, bit_xor, length, ◌==◌};
 ghost use Rattle.label_words.specs.Words.{word_of};
 ghost use Rattle.labels.specs.Sets.{limit};
@@ -74,7 +75,10 @@ impl TryFrom<u16> for Kind {
     }
 }
 
+/// That no kind has this number.
 impl fmt::Display for UnknownKind {
+    ghost output = { λ u. Some (unknown_kind_text u.0) };
+
     fn fmt<W: fmt::Write>(&self, f: &mut fmt::Formatter<W>) -> fmt::Result {
         write!(f, "no kind of record has the number {}", self.0)
     }
@@ -124,7 +128,10 @@ impl Total {
     }
 }
 
+/// The kind of the total, then its numbers.
 impl fmt::Display for Total {
+    ghost output = { λ t. Some (total_text t) };
+
     fn fmt<W: fmt::Write>(&self, f: &mut fmt::Formatter<W>) -> fmt::Result {
         match *self {
             Total::Shift(across, along) => write!(f, "shift total {across} {along}"),

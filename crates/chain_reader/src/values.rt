@@ -1,8 +1,9 @@
 //! What a reader of lists hands out.
 ghost use Rattle.chain_lists.specs.Faults.{fault_number};
 ghost use Rattle.chain_reader.specs.Reading.{fault_of, spot_of};
+ghost use Rattle.chain_reader.specs.Text.{fault_text};
 ghost use Rattle.chain_reader.specs.declared.values.ListFault.TheVariants.{Record};
-ghost use Rattle.std.specs.Prelude.{◌≡◌};
+ghost use Rattle.std.specs.Prelude.{◌≡◌, Some};
 
 use chain_lists::{Spot, Swap, Total};
 use chain_records::{Record, RecordFault};
@@ -69,15 +70,11 @@ impl From<RecordFault> for ListFault {
 
 /// Its number, its byte, and how many exchanges stand before it.
 impl fmt::Display for ListFault {
+    ghost output = { λ e. Some (fault_text (fault_of e) (spot_of e)) };
+
     fn fmt<W: fmt::Write>(&self, f: &mut fmt::Formatter<W>) -> fmt::Result {
-        let spot = self.spot();
-        write!(
-            f,
-            "refused {} byte {} after {}",
-            self.number(),
-            spot.byte,
-            spot.before
-        )
+        let Spot { byte, before } = self.spot();
+        write!(f, "refused {} byte {byte} after {before}", self.number())
     }
 }
 

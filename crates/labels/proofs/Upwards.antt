@@ -1,13 +1,14 @@
 -- The labels of a set as a list: empty where there is none, and else the lowest one before the others.
-use Rattle.std.proofs.Common.{◌≡◌, ℕ, zero, suc, ◌<◌, ◌≤◌, Bool, true, false, cond, not, ◌&&◌, eqb, leb, ◌^◌, List, [], ◌∷◌, ◌++◌, Some, None, Option, sym, refl, ap, ◌∙◌, ap₂, subst, arith}
+use Rattle.std.proofs.Common.{◌≡◌, ℕ, zero, suc, ◌<◌, ◌≤◌, Bool, true, false, cond, not, ◌&&◌, eqb, leb, ◌^◌, List, [], ◌∷◌, ◌++◌, Some, None, Option, sym, refl, ap, ◌∙◌, ap₂, subst, append-nil, arith}
 use native.Mathlib.Decide.{ℕ_discrete}
 use lib.Bits.{bit_and}
-use Rattle.std.specs.List.{list_all, list_any, find, fold}
+use Rattle.std.specs.List.{list_all, list_any, find, flat_map, fold}
 use Rattle.std.specs.Option.{option_or}
 use Rattle.std.proofs.lemmas.Bool.{true≢false}
 use Rattle.std.proofs.lemmas.Bool.Decides.{nat_tests}
 use Rattle.std.proofs.lemmas.List.Folds.{list_all-append, list_any-append, find-append}
 use Rattle.std.proofs.lemmas.List.Sums.{fold-append}
+use Rattle.std.proofs.lemmas.Grind.{flat_map-append}
 use Rattle.labels.specs.Sets.{has, full, insert, no_label, passing}
 use Rattle.labels.proofs.Member.{has_zero, has_above, has_full, members}
 use Rattle.labels.proofs.Card.{ext}
@@ -80,6 +81,15 @@ fold_labels h z s n = go (has s (suc n))
     go : (b : Bool) → fold h z (also (suc n) b (labels_in s n)) ≡ cond b (h (fold h z (labels_in s n)) (suc n)) (fold h z (labels_in s n))
     go true = fold-append h z (labels_in s n) (suc n ∷ [])
     go false = refl
+
+-- so does what each label of the set makes, one after another
+pub flat_labels : {A : Type 0} (h : ℕ → List A) (s n : ℕ) → flat_map h (labels_in s (suc n)) ≡ flat_map h (labels_in s n) ++ cond (has s (suc n)) (h (suc n)) []
+unfolding labels_in
+flat_labels {A = A} h s n = go (has s (suc n))
+  where
+    go : (b : Bool) → flat_map h (also (suc n) b (labels_in s n)) ≡ flat_map h (labels_in s n) ++ cond b (h (suc n)) []
+    go true = flat_map-append h (labels_in s n) (suc n ∷ []) ∙ ap (λ (xs : List A). flat_map h (labels_in s n) ++ xs) (append-nil (h (suc n)))
+    go false = sym (append-nil (flat_map h (labels_in s n)))
 
 -- ---- the list tells its set
 

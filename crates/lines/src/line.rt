@@ -2,6 +2,7 @@ ghost use Rattle.lines.specs.Text.{labels_text, line_text};
 ghost use Rattle.std.specs.Fmt.{WritesOnOk};
 ghost use Rattle.std.specs.Prelude.{Some};
 
+use label_words::labels_of;
 use std::fmt;
 
 /// A count, and a set of labels.
@@ -27,11 +28,8 @@ impl fmt::Display for Line {
 fn put_labels<W: fmt::Write>(f: &mut fmt::Formatter<W>, labels: u64) -> fmt::Result
     ensures { WritesOnOk W.write_str_gives f.old result (labels_text labels 64) f.new }
 {
-    let mut rest = labels;
-    while rest != 0 {
-        let index = rest.trailing_zeros();
-        write!(f, " {}", index + 1)?;
-        rest ^= 1u64 << index;
+    for label in labels_of(labels) {
+        write!(f, " {label}")?;
     }
     Ok(())
 }
