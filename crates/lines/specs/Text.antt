@@ -1,12 +1,21 @@
 -- The lines that are printed, as the bytes of their text, without the line feed at the end.
-use Rattle.std.specs.Prelude.{ℕ, zero, suc, cond, List, [], ◌++◌, ℤ, codes, decimal}
+use Rattle.std.specs.Prelude.{ℕ, zero, suc, cond, List, [], ◌∷◌, ◌++◌, ℤ, codes, decimal}
 use Rattle.std.specs.Fmt.{signed_decimal}
 use Rattle.labels.specs.Sets.{has}
+
+-- a label, after a space
+abbrev pub label_text : ℕ → List ℕ
+label_text e = codes " " ++ decimal e
+
+-- the texts of so many labels, from the first on
+abbrev pub texts_from : ℕ → ℕ → List (List ℕ)
+texts_from first zero = []
+texts_from first (suc n) = label_text first ∷ texts_from (suc first) n
 
 -- those labels of 1..n that are in s, upwards, each after a space
 unfoldable pub labels_text : ℕ → ℕ → List ℕ
 labels_text s zero = []
-labels_text s (suc n) = labels_text s n ++ cond (has s (suc n)) (codes " " ++ decimal (suc n)) []
+labels_text s (suc n) = labels_text s n ++ cond (has s (suc n)) (label_text (suc n)) []
 
 -- a count, then the labels of a set, of which a word has 64
 abbrev pub line_text : ℕ → ℕ → List ℕ

@@ -1,6 +1,7 @@
 //! The lines that are printed, with what each of them says, byte for byte.
 #![tactic(auto)]
 
+mod label_text;
 mod line;
 mod refused_line;
 #[cfg(test)]

@@ -2,6 +2,7 @@ ghost use Rattle.lines.specs.Text.{labels_text, line_text};
 ghost use Rattle.std.specs.Fmt.{WritesOnOk};
 ghost use Rattle.std.specs.Prelude.{Some};
 
+use crate::label_text::text_of;
 use label_words::labels_of;
 use std::fmt;
 
@@ -29,7 +30,7 @@ fn put_labels<W: fmt::Write>(f: &mut fmt::Formatter<W>, labels: u64) -> fmt::Res
     ensures { WritesOnOk W.write_str_gives f.old result (labels_text labels 64) f.new }
 {
     for label in labels_of(labels) {
-        write!(f, " {label}")?;
+        f.write_str(text_of(label))?;
     }
     Ok(())
 }

@@ -1,4 +1,4 @@
-use Rattle.lines.proofs.Labels.{written_none, written_more}
+use Rattle.lines.proofs.Labels.{next_among, written_none, written_more}
 use Rattle.std.proofs.Common.{is_ok, ap, ◌∙◌}
 use Rattle.lines.proofs.line.put_labels.Goals as goal
 
@@ -9,5 +9,9 @@ loop-label-init g c =
 
 pub loop-label-preserved : goal.loop-label-preserved
 loop-label-preserved g c =
-    written_more g.W.Write.write_str_gives c.args.f.now c.args.labels _ c.loop-label.f c.loop-label.invariant c.in-Some.label c.next.new.self c.in-Some.ensures.steps c.write.new.self
-    (λ p. c.write.ensures.writes p (ap is_ok c.in_ok-write.was))
+    written_more g.W.Write.write_str_gives c.args.f.now c.args.labels _ c.loop-label.f c.loop-label.invariant c.in-Some.label c.next.new.self c.in-Some.ensures.steps c.write_str.new.self
+    (λ p. rw c.text_of.ensures at c.write_str.ensures.writes p (ap is_ok c.in_ok-write_str.was))
+
+pub text_of-requires : goal.text_of-requires
+text_of-requires g c =
+    let r = next_among g.W.Write.write_str_gives c.args.f.now c.args.labels _ c.loop-label.invariant c.in-Some.label c.next.new.self c.in-Some.ensures.steps in (r.0, r.1)
