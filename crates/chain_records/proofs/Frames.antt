@@ -23,6 +23,11 @@ pub short_is : (xs : List ℕ) → length xs < 4 → complete xs ≡ false
 unfolding complete
 short_is xs h = grind arith
 
+-- what both say of one answer
+pub both_told : {X G : Type 0} {N M : Type 0} {C Q : X → Type 0} (o : Option X) → MatchOption o N C → MatchOption o M Q → (N → M → G) → ((x : X) → C x → Q x → G) → G
+both_told None n m f h = f n m
+both_told (Some x) c q f h = h x c q
+
 numbered_is : (m : ℕ) (k : Kind) → kind_numbered m ≡ Some k → m ≡ kind_number k
 numbered_is m k h = grind arith
 

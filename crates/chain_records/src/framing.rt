@@ -15,10 +15,9 @@ pub(crate) const FRAME: usize = 6;
 pub(crate) fn is_complete(rest: &[u8]) -> bool
     ensures { result ≡ complete rest.now }
 {
-    let Some((length, behind)) = rest.split_first_chunk() else {
-        return false;
-    };
-    u32::from_le_bytes(*length) as usize <= behind.len()
+    rest.split_first_chunk().is_some_and(|(length, behind)| {
+        u32::from_le_bytes(*length) as usize <= behind.len()
+    })
 }
 
 /// The kind of the first record of `rest`, if it has one and the length of it.

@@ -1,17 +1,15 @@
-use Rattle.std.proofs.Common.{◌≡◌, ◌≤◌, leb, length, sym, ap, ◌∙◌, arith, w32}
+use Rattle.std.proofs.Common.{rules, ◌≡◌, leb, length, sym, ap, ◌∙◌, arith, w32}
 use Rattle.std.specs.Int.{from_le_bytes}
-use Rattle.chain_lists.specs.Faults.{stated}
+use Rattle.chain_lists.specs.Faults.{complete}
 use Rattle.chain_lists.proofs.Bytes.{number_4}
-use Rattle.chain_records.proofs.Frames.{complete_is, short_is}
+use Rattle.chain_records.proofs.Frames.{both_told, complete_is, short_is}
 use Rattle.chain_records.proofs.framing.is_complete.Goals as goal
-
-pub returns-in_default : goal.returns-in_default
-returns-in_default c = sym (short_is c.args.rest.now c.in_default.ensures.cases)
 
 pub returns : goal.returns
 returns c =
     let xs = c.args.rest.now in
-    let l = c.in-Some.ensures.cases in
-    let long : 4 ≤ length xs = omega (arith, l.2) in
-    let is : c.from_le_bytes.result ≡ stated xs = c.from_le_bytes.ensures ∙ ap (from_le_bytes w32) l.0 ∙ number_4 xs long in
-    ap (λ n. leb n (length c.in-Some.behind.now)) is ∙ complete_is xs (length c.in-Some.behind.now) l.2
+    both_told {G = c.is_some_and.result ≡ complete xs} c.split_first_chunk.result c.split_first_chunk.ensures.cases c.is_some_and.ensures
+    (λ l r. r ∙ sym (short_is xs l))
+    (λ p l r.
+    let told : c.is_some_and.result ≡ leb (from_le_bytes w32 p.0.now) (length p.1.now) = search rules in
+    told ∙ ap (λ n. leb n (length p.1.now)) (ap (from_le_bytes w32) l.0 ∙ number_4 xs (omega (arith, l.2))) ∙ complete_is xs (length p.1.now) l.2)
