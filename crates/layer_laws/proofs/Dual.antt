@@ -8,11 +8,11 @@ use Rattle.labels.proofs.Member.{has_pos, members}
 use Rattle.labels.proofs.Card.{ext, within, within_back, card_zero, card_subset, card_remove, card_split, card_or_and, subset_eq, more}
 use Rattle.labels.proofs.Find.{no_label_tells, no_label_passes}
 use Rattle.matroid_laws.specs.Matroids.{IsMatroid, Base}
-use Rattle.matroid_laws.specs.Greedy.{greedy}
+use Rattle.matroid_laws.specs.Greedy.{joins, greedy}
 use Rattle.matroid_laws.proofs.Bases.{same_card}
 use Rattle.matroid_laws.proofs.Tests.{in_base, some_base}
 use Rattle.matroid_laws.proofs.Greedy.{greedy_independent, greedy_within}
-use Rattle.layer_laws.specs.Layers.{complement, joining, dual, BaseOutside}
+use Rattle.layer_laws.specs.Layers.{complement, dual, BaseOutside}
 use Rattle.layer_laws.proofs.Sets.{insert_subset, subset_below}
 use Rattle.layer_laws.proofs.Restriction.{restricted, restricted_from, restricted_independent, restricted_within, restriction_is, greedy_base, base_in, joins_none}
 
@@ -126,16 +126,16 @@ module _ (n : ℕ) (independent : ℕ → Bool) (M : IsMatroid n independent) wh
   }
     where
       last : (e : ℕ) → 1 ≤ e → e ≤ n → has (rest s) e ≡ false → (has s e ≡ true) ⊎ (has s e ≡ false) → independent (insert (rest s) e) ≡ false
-      last e l g o (inl i) = and_other (has s e) _ i (no_label_tells (joining independent s (rest s)) n (and_parts _ _ h).1 e l g)
+      last e l g o (inl i) = and_other (has s e) _ i (no_label_tells (joins independent s (rest s)) n (and_parts _ _ h).1 e l g)
       last e l g o (inr i) = joins_none n independent M (complement n s) (rest s) e (greedy_base n independent M (complement n s)) l g (in_complement n s e l g i) o
 
   meant : (s : ℕ) → BaseOutside n independent s → dual n independent s ≡ true
-  meant s S = and_from _ _ (below_passes s (2 ^ n) S.inside) (no_label_passes (joining independent s (rest s)) n (λ e l g. last e l g (cases_Bool (has s e))))
+  meant s S = and_from _ _ (below_passes s (2 ^ n) S.inside) (no_label_passes (joins independent s (rest s)) n (λ e l g. last e l g (cases_Bool (has s e))))
     where
       full-rest : Base n independent (rest s)
       full-rest = base_in n independent M (complement n s) S.base (rest s) S.is_base S.outside (greedy_base n independent M (complement n s))
 
-      last : (e : ℕ) → 1 ≤ e → e ≤ n → (has s e ≡ true) ⊎ (has s e ≡ false) → joining independent s (rest s) e ≡ false
+      last : (e : ℕ) → 1 ≤ e → e ≤ n → (has s e ≡ true) ⊎ (has s e ≡ false) → joins independent s (rest s) e ≡ false
       last e l g (inr o) = and_left _ _ o
       last e l g (inl i) = and_right _ _ (full-rest.full e l g (in_none n s (rest s) e (greedy_within n independent M (complement n s)) i))
 
