@@ -11,9 +11,6 @@ use Rattle.label_words.specs.Words.{word_of}
 pub word_in : (e : ℕ) → 1 ≤ e → e ≤ 64 → word_of e ≡ single e
 word_in e l g = let f : (leb 1 e && leb e 64) ≡ true = grind (arith, nat_tests) in ap (λ (b : Bool). cond b (single e) 0) f
 
-pub word_out : (e : ℕ) → (1 ≤ e → e ≤ 64 → ⊥) → word_of e ≡ 0
-word_out e h = let f : (leb 1 e && leb e 64) ≡ false = grind (arith, nat_tests) in ap (λ (b : Bool). cond b (single e) 0) f
-
 pub has_beyond : (s e : ℕ) → s < 2 ^ 64 → (1 ≤ e → e ≤ 64 → ⊥) → has s e ≡ false
 has_beyond s zero h out = has_zero s
 has_beyond s (suc k) h out = has_above 64 s (suc k) h (omega arith)
