@@ -1,11 +1,12 @@
 -- The labels outside a set contain a base below: the dual.
-use Rattle.std.proofs.Common.{◌≡◌, ℕ, suc, ◌+◌, ◌^◌, ◌<◌, ◌≤◌, Bool, true, false, ◌&&◌, ltb, ◌⊎◌, ◌↔◌, sym, refl, ap, ◌∙◌, subst, inl, inr, arith, pow_pos}
+use Rattle.std.proofs.Common.{◌≡◌, ℕ, suc, ◌+◌, ◌^◌, ◌<◌, ◌≤◌, Bool, true, false, ◌⊎◌, ◌↔◌, sym, ap, ◌∙◌, subst, inl, inr, arith, pow_pos}
 use lib.Bits.{bit_and, bit_or}
-use Rattle.std.proofs.lemmas.Bool.Decides.{nat_tests}
-use Rattle.std.proofs.lemmas.Bool.{and_from, and_parts, and_left, and_right, cases_Bool, cases_lt, true≢false}
-use Rattle.labels.specs.Sets.{has, insert, remove, difference, full, Subset, card}
+use Rattle.std.specs.Cmp.{both_ways as both_same}
+use Rattle.std.proofs.lemmas.Bool.{and_from, and_parts, and_left, and_right, both_ways, cases_Bool, cases_lt, false_from_ne_true, lt-ltb, ltb-true, true≢false}
+use Rattle.labels.specs.Sets.{has, insert, remove, difference, Subset, card}
 use Rattle.labels.proofs.Member.{has_pos, members}
-use Rattle.labels.proofs.Card.{ext, within, within_back, card_zero, card_subset, card_remove, card_split, card_or_and, subset_eq, more}
+use Rattle.labels.proofs.Card.{ext, within, within_back, card_subset, card_remove, card_split, card_or_and, subset_eq, more}
+use Rattle.labels.proofs.Parts.{card_apart, insert_below, insert_subset, subset_below}
 use Rattle.labels.proofs.Find.{no_label_tells, no_label_passes}
 use Rattle.matroid_laws.specs.Matroids.{IsMatroid, Base}
 use Rattle.matroid_laws.specs.Greedy.{joins, greedy}
@@ -13,21 +14,11 @@ use Rattle.matroid_laws.proofs.Bases.{same_card}
 use Rattle.matroid_laws.proofs.Tests.{in_base, some_base}
 use Rattle.matroid_laws.proofs.Greedy.{greedy_independent, greedy_within}
 use Rattle.layer_laws.specs.Layers.{complement, dual, BaseOutside}
-use Rattle.layer_laws.proofs.Sets.{insert_subset, subset_below}
 use Rattle.layer_laws.proofs.Restriction.{restricted, restricted_from, restricted_independent, restricted_within, restriction_is, greedy_base, base_in, joins_none}
 
 -- of sets alone
-below_tells : (s m : ℕ) → ltb s m ≡ true → s < m
-below_tells s m h = grind (arith, nat_tests)
-
-below_passes : (s m : ℕ) → s < m → ltb s m ≡ true
-below_passes s m h = grind (arith, nat_tests)
-
-in_full : (n s e : ℕ) → s < 2 ^ n → has s e ≡ true → has (full n) e ≡ true
-in_full n s e h m = let l = within_back n s e h m in let p = has_pos s e m in grind (arith, members)
-
 outside_none : (n b : ℕ) → b < 2 ^ n → Subset b (complement n 0)
-outside_none n b h e m = let a = in_full n b e h m in grind (arith, members)
+outside_none n b h e m = let l = within_back n b e h m in let p = has_pos b e m in grind (arith, members)
 
 outside_fewer : (n s t b : ℕ) → Subset s t → Subset b (complement n t) → Subset b (complement n s)
 outside_fewer n s t b p q e m = let x = p e in let y = q e m in grind (arith, members)
@@ -43,9 +34,6 @@ outside_both n s t e m o = grind (arith, members)
 
 in_none : (n s j e : ℕ) → Subset j (complement n s) → has s e ≡ true → has j e ≡ false
 in_none n s j e p i = let x = p e in grind (arith, members)
-
-and_other : (a b : Bool) → a ≡ true → (a && b) ≡ false → b ≡ false
-and_other a b p q = grind arith
 
 not_in : (n s e : ℕ) → has (complement n s) e ≡ true → has s e ≡ false
 not_in n s e m = grind (arith, members)
@@ -74,17 +62,6 @@ new_one j x s t e p m o = (let q = p e in grind (arith, members), let q = p e in
 fewer : (s t : ℕ) → card s < card t → card (difference s t) < card (difference t s)
 fewer s t h = let z : bit_and s t ≡ bit_and t s = ext _ _ (λ e. grind (arith, members)) in omega (arith, card_split s t, card_split t s, ap card z)
 
-card_sum : (a b : ℕ) → card (bit_or a b) ≤ card a + card b
-card_sum a b = omega (arith, card_or_and a b)
-
-card_apart : (a b : ℕ) → ((e : ℕ) → has a e ≡ true → has b e ≡ false) → card (bit_or a b) ≡ card a + card b
-card_apart a b f =
-    let z : bit_and a b ≡ 0 = ext _ _ (λ e. grind (arith, members)) in
-    let p = card_or_and a b in let q = ap card z in let z0 = card_zero in omega arith
-
-insert_below : (n s t e : ℕ) → s < 2 ^ n → t < 2 ^ n → has t e ≡ true → insert s e < 2 ^ n
-insert_below n s t e h g m = within n (insert s e) (λ f i. let p = within_back n s f h in let q = within_back n t e g m in let d = has_pos t e m in grind (arith, members))
-
 complement_below : (n s : ℕ) → complement n s < 2 ^ n
 complement_below n s = within n (complement n s) (λ e m. (one_of n s e m).1)
 
@@ -95,19 +72,14 @@ fewer_outside n b e l g o =
     ap (λ (x : ℕ). suc (card x)) z ∙ card_remove (complement n b) e (in_complement n b e l g o)
 
 complement_twice : (n b : ℕ) → b < 2 ^ n → complement n (complement n b) ≡ b
-complement_twice n b h = ext _ _ (λ e. let p = in_full n b e h in grind (arith, members))
+complement_twice n b h = ext _ _ (λ e. let l = within_back n b e h in let p = has_pos b e in grind (arith, members))
 
 -- what is within b is outside what is outside b
 outside_within : (n s b : ℕ) → Subset s b → Subset (complement n b) (complement n s)
 outside_within n s b p e m = let q = p e in grind (arith, members)
 
 within_outside : (n s d : ℕ) → s < 2 ^ n → Subset d (complement n s) → Subset s (complement n d)
-within_outside n s d h p e m = let q = p e in let f = in_full n s e h m in grind (arith, members)
-
-one_test : (a b : Bool) → (a ≡ true → b ≡ true) → (b ≡ true → a ≡ true) → a ≡ b
-one_test true b p q = sym (p refl)
-one_test false true p q = q refl
-one_test false false p q = refl
+within_outside n s d h p e m = let q = p e in let l = within_back n s e h m in let f = has_pos s e m in grind (arith, members)
 
 module _ (n : ℕ) (independent : ℕ → Bool) (M : IsMatroid n independent) where
   -- what greed keeps outside s
@@ -116,7 +88,7 @@ module _ (n : ℕ) (independent : ℕ → Bool) (M : IsMatroid n independent) wh
 
   means : (s : ℕ) → dual n independent s ≡ true → BaseOutside n independent s
   means s h = record {
-    inside = below_tells s (2 ^ n) (and_parts _ _ h).0;
+    inside = ltb-true s (2 ^ n) (and_parts _ _ h).0;
     base = rest s;
     is_base = record {
       is_independent = greedy_independent n independent M (complement n s);
@@ -126,11 +98,11 @@ module _ (n : ℕ) (independent : ℕ → Bool) (M : IsMatroid n independent) wh
   }
     where
       last : (e : ℕ) → 1 ≤ e → e ≤ n → has (rest s) e ≡ false → (has s e ≡ true) ⊎ (has s e ≡ false) → independent (insert (rest s) e) ≡ false
-      last e l g o (inl i) = and_other (has s e) _ i (no_label_tells (joins independent s (rest s)) n (and_parts _ _ h).1 e l g)
+      last e l g o (inl i) = false_from_ne_true _ (λ q. both_ways _ (no_label_tells (joins independent s (rest s)) n (and_parts _ _ h).1 e l g) (and_from (has s e) _ i q))
       last e l g o (inr i) = joins_none n independent M (complement n s) (rest s) e (greedy_base n independent M (complement n s)) l g (in_complement n s e l g i) o
 
   meant : (s : ℕ) → BaseOutside n independent s → dual n independent s ≡ true
-  meant s S = and_from _ _ (below_passes s (2 ^ n) S.inside) (no_label_passes (joins independent s (rest s)) n (λ e l g. last e l g (cases_Bool (has s e))))
+  meant s S = and_from _ _ (lt-ltb s (2 ^ n) S.inside) (no_label_passes (joins independent s (rest s)) n (λ e l g. last e l g (cases_Bool (has s e))))
     where
       full-rest : Base n independent (rest s)
       full-rest = base_in n independent M (complement n s) S.base (rest s) S.is_base S.outside (greedy_base n independent M (complement n s))
@@ -188,7 +160,7 @@ module _ (n : ℕ) (independent : ℕ → Bool) (M : IsMatroid n independent) wh
           little : card y ≤ card j + card (difference s t)
           little =
               let p = around w j y s t J p Y'.is_independent yt (λ e m o. outside_both n s t e (yt e m) o) in
-              omega (arith, card_subset y (bit_or j (difference s t)) p, card_sum j (difference s t))
+              omega (arith, card_subset y (bit_or j (difference s t)) p, card_or_and j (difference s t))
 
           much : card (bit_or j (difference t s)) ≡ card j + card (difference t s)
           much = card_apart j (difference t s) (λ e m. not_in_difference t s e (not_in n t e (outside_second n s t j jw e m)))
@@ -199,7 +171,7 @@ module _ (n : ℕ) (independent : ℕ → Bool) (M : IsMatroid n independent) wh
             r.0,
             r.1,
             meant (insert s e) (record {
-              inside = insert_below n s t e S.inside T.inside r.0;
+              inside = insert_below n s e S.inside (has_pos t e r.0) (within_back n t e T.inside r.0);
               base = x;
               is_base = X';
               outside = outside_insert n s x e (has_pos t e r.0) xs o;
@@ -237,7 +209,7 @@ module _ (n : ℕ) (independent : ℕ → Bool) (M : IsMatroid n independent) wh
       go (inl h) =
           let r = more B.base (complement n b) h in let k = one_of n b r.0 r.1 in
           let i = meant (insert b r.0) (record {
-            inside = insert_below n b (complement n b) r.0 B.inside (complement_below n b) r.1;
+            inside = insert_below n b r.0 B.inside k.0 k.1;
             base = B.base;
             is_base = B.is_base;
             outside = outside_insert n b B.base r.0 k.0 B.outside r.2;
@@ -258,15 +230,11 @@ module _ (n : ℕ) (independent : ℕ → Bool) (M : IsMatroid n independent) wh
       up : b < 2 ^ n → Base n independent (complement n b) → Base n (dual n independent) b
       up h C = record {
         is_independent = meant b (record { inside = h; base = complement n b; is_base = C; outside = λ e m. m });
-        full = λ e l g o. last e l g o (cases_Bool (dual n independent (insert b e)));
+        full = λ e l g o. false_from_ne_true _ (λ x. no_more b e C l g o (means (insert b e) x));
       }
-        where
-          last : (e : ℕ) → 1 ≤ e → e ≤ n → has b e ≡ false → (dual n independent (insert b e) ≡ true) ⊎ (dual n independent (insert b e) ≡ false) → dual n independent (insert b e) ≡ false
-          last e l g o (inr x) = x
-          last e l g o (inl x) = absurd (no_more b e C l g o (means (insert b e) x))
 
 pub dual_twice : (n : ℕ) (independent : ℕ → Bool) → IsMatroid n independent → (s : ℕ) → dual n (dual n independent) s ≡ independent s
-dual_twice n independent M s = one_test (dual n (dual n independent) s) (independent s) (λ h. back (both.0 h)) (λ h. again (in_base n independent M s h))
+dual_twice n independent M s = both_same (dual n (dual n independent) s) (independent s) (λ h. back (both.0 h)) (λ h. again (in_base n independent M s h))
   where
     D : IsMatroid n (dual n independent)
     D = dual_is n independent M

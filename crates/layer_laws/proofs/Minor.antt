@@ -1,17 +1,17 @@
 -- Some labels taken for granted, and some removed.
-use Rattle.std.proofs.Common.{◌≡◌, ℕ, ◌^◌, ◌<◌, ◌≤◌, Bool, true, false, ◌&&◌, ◌||◌, eqb, ◌⊎◌, ◌↔◌, refl, ap, ◌∙◌, inl, inr, arith}
+use Rattle.std.proofs.Common.{◌≡◌, ℕ, ◌^◌, ◌<◌, ◌≤◌, Bool, true, false, ◌&&◌, ◌||◌, eqb, ◌⊎◌, ◌↔◌, sym, refl, ap, ◌∙◌, inl, inr, arith}
 use native.Mathlib.Decide.{ℕ_discrete}
 use lib.Bits.{bit_and, bit_or}
 use Rattle.std.proofs.lemmas.Bool.Decides.{nat_tests}
-use Rattle.std.proofs.lemmas.Bool.{and_from, cases_lt}
+use Rattle.std.proofs.lemmas.Bool.{and_from, and_parts, cases_lt, eq-eqb, eqb-true, ne_eqb, or_cases, or_left, or_right}
 use Rattle.labels.specs.Sets.{has, insert, Subset, card}
 use Rattle.labels.proofs.Member.{has_pos, members}
 use Rattle.labels.proofs.Card.{ext, card_zero, card_or_and, more}
+use Rattle.labels.proofs.Parts.{subset_below, subset_none}
 use Rattle.matroid_laws.specs.Matroids.{IsMatroid}
 use Rattle.matroid_laws.specs.Greedy.{greedy}
 use Rattle.matroid_laws.proofs.Greedy.{greedy_independent}
 use Rattle.layer_laws.specs.Layers.{apart, pinned, minor, InMinor}
-use Rattle.layer_laws.proofs.Sets.{subset_below}
 
 -- of sets alone
 apart_tells : (s t : ℕ) → apart s t ≡ true → (e : ℕ) → has s e ≡ true → has t e ≡ false
@@ -44,32 +44,11 @@ held s t k h l =
     let r = more (bit_and s k) (bit_and t k) (omega (arith, card_or_and s k, card_or_and t k)) in
     let x = r.1 in let y = r.2 in (r.0, grind (arith, members), grind (arith, members), grind (arith, members))
 
-says : (a b c : Bool) → (a || (b && c)) ≡ true → (a ≡ true) ⊎ ((b ≡ true) × (c ≡ true))
-says true b c h = inl refl
-says false true true h = inr (refl, refl)
-says false true false h = absurd (grind arith)
-says false false c h = absurd (grind arith)
-
-is_none : (s : ℕ) → eqb s 0 ≡ true → s ≡ 0
-is_none s h = grind (arith, nat_tests)
-
-or_right : (a b : Bool) → b ≡ true → (a || b) ≡ true
-or_right a b h = grind arith
-
-or_both : (a b : Bool) → b ≡ true → (a || b) ≡ b
-or_both a b h = grind arith
-
-none_passes : (s : ℕ) (b : Bool) → s ≡ 0 → (eqb s 0 || b) ≡ true
-none_passes s b z = grind (arith, nat_tests)
-
 some_is : (s : ℕ) (b : Bool) → (s ≡ 0 → ⊥) → (eqb s 0 || b) ≡ b
-some_is s b z = grind (arith, nat_tests)
+some_is s b z = ap (λ (x : Bool). x || b) (ne_eqb s 0 z)
 
 none_within : (s t : ℕ) → s ≡ 0 → Subset s t
 none_within s t z e m = let q = ap (λ (x : ℕ). has x e) z in grind (arith, members)
-
-subset_none : (s t : ℕ) → Subset s t → t ≡ 0 → s ≡ 0
-subset_none s t p z = ext _ _ (λ e. let q = ap (λ (x : ℕ). has x e) z in let r = p e in grind (arith, members))
 
 subset_apart : (s t g : ℕ) → Subset s t → apart t g ≡ true → apart s g ≡ true
 subset_apart s t g p a = apart_passes s g (λ e m. apart_tells t g a e (p e m))
@@ -77,18 +56,15 @@ subset_apart s t g p a = apart_passes s g (λ e m. apart_tells t g a e (p e m))
 none_apart : (s g : ℕ) → s ≡ 0 → apart s g ≡ true
 none_apart s g z = apart_passes s g (λ e m. let q = ap (λ (x : ℕ). has x e) z in grind (arith, members))
 
-none_beside : (s k : ℕ) → s ≡ 0 → bit_or s k ≡ k
-none_beside s k z = ext _ _ (λ e. let q = ap (λ (x : ℕ). has x e) z in grind (arith, members))
-
 pub pinned_means : (independent : ℕ → Bool) (kept removed s : ℕ) → (pinned independent kept removed s ≡ true) ↔ InMinor independent kept removed s
-pinned_means independent kept removed s = (λ h. tells (says _ _ _ h), passed)
+pinned_means independent kept removed s = (λ h. tells (or_cases _ _ h), passed)
   where
-    tells : (eqb s 0 ≡ true) ⊎ ((apart s removed ≡ true) × (independent (bit_or s kept) ≡ true)) → InMinor independent kept removed s
-    tells (inl z) = inl (is_none s z)
-    tells (inr r) = inr r
+    tells : (eqb s 0 ≡ true) ⊎ ((apart s removed && independent (bit_or s kept)) ≡ true) → InMinor independent kept removed s
+    tells (inl z) = inl (eqb-true s 0 z)
+    tells (inr r) = inr (and_parts _ _ r)
 
     passed : InMinor independent kept removed s → pinned independent kept removed s ≡ true
-    passed (inl z) = none_passes s (apart s removed && independent (bit_or s kept)) z
+    passed (inl z) = or_left (eqb s 0) _ (eq-eqb s 0 z)
     passed (inr (a, b)) = or_right (eqb s 0) _ (and_from _ _ a b)
 
 module _ (n : ℕ) (independent : ℕ → Bool) (kept removed : ℕ) (M : IsMatroid n independent) where
@@ -152,7 +128,9 @@ module _ (n : ℕ) (independent : ℕ → Bool) (kept removed : ℕ) (M : IsMatr
     where
       go : Dec (s ≡ 0) → pinned independent kept removed s ≡ (apart s removed && independent (bit_or s kept))
       go (no z) = some_is s _ z
-      go (yes z) = or_both _ _ (and_from _ _ (none_apart s removed z) (ap independent (none_beside s kept z) ∙ h))
+      go (yes z) =
+          let both = and_from _ _ (none_apart s removed z) (ap (λ (x : ℕ). independent (bit_or x kept)) z ∙ h) in
+          or_right (eqb s 0) _ both ∙ sym both
 
 pub minor_means : (n : ℕ) (independent : ℕ → Bool) (ins outs : ℕ) → IsMatroid n independent → (s : ℕ)
     → pinned independent (greedy n independent ins) (bit_or ins outs) s ≡ minor n independent ins outs s
