@@ -6,13 +6,11 @@ use Rattle.std.specs.List.{AllByRecursion}
 use Rattle.std.proofs.ByRecursion.{All-get_or, All-weaker}
 use Rattle.std.proofs.lemmas.Bool.Decides.{nat_tests}
 use Rattle.std.proofs.lemmas.Bool.{cases_eq, ne_eqb, cond-true, cond-false, false≢true}
+use Rattle.std.proofs.lemmas.Option.{none-some}
 use Rattle.std.proofs.lemmas.Str.Parse.{IsNumeralModel, numerals_by_fold, digits_value_short}
 use Rattle.std.proofs.lemmas.Fmt.{decimal-digits_value, digits_decimal, digits_value-decimal, decimal_digit, decimal_nonempty, length-decimal-le, length_signed_le, first_decimal}
 use Rattle.survey_laws.proofs.Pieces.{Free}
 use Rattle.survey_laws.specs.Check.{is_digit, sized, read_on, number_in, plain, negative, shift_in}
-
-pub none_some : {X : Type 0} {x : X} → None ≡ Some x → ⊥
-none_some e = let z : ◌≡◌ {A = ℕ} 0 1 = cc in omega arith
 
 -- the number that digits write after n
 abbrev value_on : ℕ → List ℕ → ℕ
@@ -40,7 +38,7 @@ read_on_is (c ∷ cs) n m e = go (is_digit c) refl e (read_on_is cs (n * 10 + (c
     go : (b : Bool) → is_digit c ≡ b → cond b (read_on (n * 10 + (c - 48)) cs) None ≡ Some m → (read_on (n * 10 + (c - 48)) cs ≡ Some m → Digital cs × (value_on (n * 10 + (c - 48)) cs ≡ m))
         → Digital (c ∷ cs) × (value_on (n * 10 + (c - 48)) cs ≡ m)
     go true p e ih = let r = ih e in ((digit_in c p, r.0), r.1)
-    go false p e ih = absurd (none_some e)
+    go false p e ih = absurd (none-some _ e)
 
 read_on_digits : (ds : List ℕ) (n : ℕ) → Digital ds → read_on n ds ≡ Some (value_on n ds)
 read_on_digits [] n d = refl
@@ -61,7 +59,7 @@ unfolding number_in
 number_in_is s n e = go (sized s) refl e
   where
     go : (b : Bool) → sized s ≡ b → cond b (read_on 0 s) None ≡ Some n → (s ≡ decimal n) × (n < 10 ^ 7)
-    go false p e = absurd (none_some e)
+    go false p e = absurd (none-some _ e)
     go true p e =
         let t = sized_tells s p in
         let r = read_on_is s 0 n e in
@@ -98,15 +96,15 @@ unfolding shift_in
 shift_in_is s z e = go (eqb (get_or s 0 0) 45) refl e
   where
     below : (o : Option ℕ) → number_in (drop 1 s) ≡ o → eqb (get_or s 0 0) 45 ≡ true → negative o ≡ Some z → (s ≡ signed_decimal z) × (nat_abs z < 10 ^ 7)
-    below None q m e = absurd (none_some e)
-    below (Some zero) q m e = absurd (none_some e)
+    below None q m e = absurd (none-some _ e)
+    below (Some zero) q m e = absurd (none-some _ e)
     below (Some (suc n)) q m e =
         let r = number_in_is (drop 1 s) (suc n) q in
         let k : negsuc n ≡ z = cc in
         (minus_front s m ∙ ap (λ ds. 45 ∷ ds) r.0 ∙ ap signed_decimal k, subst (λ (y : ℤ). nat_abs y < 10 ^ 7) k r.1)
 
     above : (o : Option ℕ) → number_in s ≡ o → plain o ≡ Some z → (s ≡ signed_decimal z) × (nat_abs z < 10 ^ 7)
-    above None q e = absurd (none_some e)
+    above None q e = absurd (none-some _ e)
     above (Some n) q e =
         let r = number_in_is s n q in
         let k : pos n ≡ z = cc in
