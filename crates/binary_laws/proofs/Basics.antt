@@ -1,5 +1,5 @@
 -- Facts of flags and of sets alone.
-use Rattle.std.proofs.Common.{◌≡◌, ℕ, ◌≤◌, Bool, true, false, cond, ◌⊎◌, refl, ap, ◌∙◌, inl, inr, arith}
+use Rattle.std.proofs.Common.{◌≡◌, ℕ, ◌≤◌, Bool, true, false, cond, ◌⊎◌, refl, ap, inl, inr, arith}
 use native.Mathlib.Decide.{ℕ_discrete}
 use lib.Bits.{bit_xor}
 use Rattle.std.proofs.lemmas.Bool.{both_ways, false_from_ne_true}
@@ -28,21 +28,13 @@ no_label_fails t n h = go (find t n)
     go (inr f) = absurd (both_ways _ h (no_label_passes t n f))
 
 pub single_subset : (s e : ℕ) → has s e ≡ true → Subset (single e) s
-single_subset s e m f i = go (ℕ_discrete f e)
-  where
-    go : Dec (f ≡ e) → has s f ≡ true
-    go (yes z) = ap (has s) z ∙ m
-    go (no z) = let l = has_pos s e m in absurd (grind (arith, members))
+single_subset s e m f i = let l = has_pos s e m in grind (arith, members)
 
 pub remove_subset : (t s e : ℕ) → 1 ≤ e → Subset t (insert s e) → Subset (remove t e) s
 remove_subset t s e l p f m = let q = p f in grind (arith, members)
 
 pub out_subset : (t s e : ℕ) → 1 ≤ e → Subset t (insert s e) → has t e ≡ false → Subset t s
-out_subset t s e l p o f m = let q = p f m in go (ℕ_discrete f e) q
-  where
-    go : Dec (f ≡ e) → has (insert s e) f ≡ true → has s f ≡ true
-    go (yes z) q = let y = ap (has t) z in absurd (grind arith)
-    go (no z) q = grind (arith, members)
+out_subset t s e l p o f m = let q = p f m in grind (arith, members)
 
 pub remove_xor : (t e : ℕ) → has t e ≡ true → t ≡ bit_xor (remove t e) (single e)
 remove_xor t e m = let l = has_pos t e m in ext _ _ (λ f. grind (arith, members))

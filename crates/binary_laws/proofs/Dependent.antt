@@ -33,13 +33,10 @@ clear_step x w q a false hw hx r i p o s = ext _ _ (λ e.
         → has (bit_xor (bit_xor x (cond hx q 0)) 0) e ≡ has (bit_xor (bit_xor x 0) (cond r q 0)) e
     go e l k j = grind (arith, members)
 
-clear_none : (q a : ℕ) (r : Bool) → has 0 a ≡ r → 0 ≡ bit_xor 0 (cond r q 0)
-clear_none q a r h = ext _ _ (λ e. let z = has_none a in let j = has_cond r q 0 e in grind (arith, members))
-
 clear_sum : (c : ℕ → ℕ) (a q t : ℕ) → has q a ≡ true → (m : ℕ)
     → xor_sum (cleared c a q) m t ≡ bit_xor (xor_sum c m t) (cond (has (xor_sum c m t) a) q 0)
 unfolding xor_sum
-clear_sum c a q t i zero = clear_none q a (has 0 a) refl
+clear_sum c a q t i zero = ap (λ (b : Bool). cond b q 0) (sym (has_none a))
 clear_sum c a q t i (suc m) =
     ap (λ (z : ℕ). bit_xor z (cond (has t (suc m)) (cleared c a q (suc m)) 0)) (clear_sum c a q t i m)
     ∙ clear_step (xor_sum c m t) (c (suc m)) q a (has t (suc m)) (has (c (suc m)) a) (has (xor_sum c m t) a) _ i refl refl refl

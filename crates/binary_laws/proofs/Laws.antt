@@ -1,7 +1,7 @@
 -- Binary matroids meet the laws.
 use Rattle.std.proofs.Common.{◌≡◌, ℕ, ◌^◌, ◌<◌, ◌≤◌, Bool, true, false, not, ◌&&◌, eqb, ltb, ◌⊎◌, sym, refl, ap, ◌∙◌, inl, inr, arith, pow_pos}
 use native.Mathlib.Decide.{ℕ_discrete}
-use Rattle.std.proofs.lemmas.Bool.{and_from, and_parts, both_ways, cases_Bool, eq-eqb, eqb-true, false_from_ne_true, lt-ltb, ltb-true}
+use Rattle.std.proofs.lemmas.Bool.{and_from, and_parts, both_ways, cases_Bool, eq-eqb, eqb-true, false_from_ne_true, lt-ltb, not-true, ltb-true}
 use Rattle.labels.specs.Sets.{has, insert, remove, single, Subset, is_subset, card}
 use Rattle.labels.proofs.Member.{has_pos}
 use Rattle.labels.proofs.Card.{within_back}
@@ -17,9 +17,6 @@ use Rattle.binary_laws.proofs.Dependent.{dependent}
 barred : (h a b : Bool) → h ≡ true → (h && (not a && b)) ≡ false → (a ≡ true) ⊎ ((a ≡ false) × (b ≡ false))
 barred h true b i p = inl refl
 barred h false b i p = inr (refl, grind arith)
-
-joins : (h a b : Bool) → (h && (not a && b)) ≡ true → (h ≡ true) × (a ≡ false) × (b ≡ true)
-joins h a b p = (grind arith, grind arith, grind arith)
 
 module _ (n : ℕ) (v : ℕ → ℕ) where
   pub means : (s : ℕ) → binary n v s ≡ true → LinearlyIndependent n v s
@@ -85,7 +82,7 @@ module _ (n : ℕ) (v : ℕ → ℕ) where
       go : ((e : ℕ) × (1 ≤ e) × (e ≤ n) × ((has t e && (not (has s e) && binary n v (insert s e))) ≡ true))
           ⊎ ((e : ℕ) → 1 ≤ e → e ≤ n → (has t e && (not (has s e) && binary n v (insert s e))) ≡ false)
           → (e : ℕ) × (has t e ≡ true) × (has s e ≡ false) × (binary n v (insert s e) ≡ true)
-      go (inl (e, l, g, z)) = let r = joins (has t e) (has s e) (binary n v (insert s e)) z in (e, r.0, r.1, r.2)
+      go (inl (e, l, g, z)) = let p = and_parts _ _ z in let q = and_parts _ _ p.1 in (e, p.0, not-true _ q.0, q.1)
       go (inr none) = absurd (stuck none)
 
   pub binary_is : IsMatroid n (binary n v)

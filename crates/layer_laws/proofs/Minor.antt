@@ -4,10 +4,11 @@ use native.Mathlib.Decide.{ℕ_discrete}
 use lib.Bits.{bit_and, bit_or}
 use Rattle.std.proofs.lemmas.Bool.Decides.{nat_tests}
 use Rattle.std.proofs.lemmas.Bool.{and_from, and_parts, cases_lt, eq-eqb, eqb-true, ne_eqb, or_cases, or_left, or_right}
+use Rattle.std.proofs.lemmas.Nat.{le_or_l}
 use Rattle.labels.specs.Sets.{has, insert, Subset, card}
 use Rattle.labels.proofs.Member.{has_pos, members}
 use Rattle.labels.proofs.Card.{ext, card_zero, card_or_and, more}
-use Rattle.labels.proofs.Parts.{subset_below, subset_none}
+use Rattle.labels.proofs.Parts.{subset_none}
 use Rattle.matroid_laws.specs.Matroids.{IsMatroid}
 use Rattle.matroid_laws.specs.Greedy.{greedy}
 use Rattle.matroid_laws.proofs.Greedy.{greedy_independent}
@@ -22,9 +23,6 @@ apart_passes s t f = let z : bit_and s t ≡ 0 = ext _ _ (λ e. grind (arith, me
 
 or_subset : (s t k : ℕ) → Subset s t → Subset (bit_or s k) (bit_or t k)
 or_subset s t k p e m = grind (arith, members)
-
-in_or : (s k : ℕ) → Subset s (bit_or s k)
-in_or s k e m = grind (arith, members)
 
 insert_or : (s k e : ℕ) → 1 ≤ e → bit_or (insert s e) k ≡ insert (bit_or s k) e
 insert_or s k e l = ext _ _ (λ f. grind (arith, members))
@@ -98,7 +96,7 @@ module _ (n : ℕ) (independent : ℕ → Bool) (kept removed : ℕ) (M : IsMatr
     where
       bound : (s : ℕ) → (s ≡ 0) ⊎ Passes s → s < 2 ^ n
       bound s (inl z) = omega (arith, M.inside 0 M.empty)
-      bound s (inr (a, b)) = subset_below n s (bit_or s kept) (in_or s kept) (M.inside _ b)
+      bound s (inr (a, b)) = omega (arith, le_or_l s kept, M.inside _ b)
 
       part_of : (s t : ℕ) → Subset s t → (t ≡ 0) ⊎ Passes t → pinned independent kept removed s ≡ true
       part_of s t p (inl z) = empty_passes s (subset_none s t p z)

@@ -43,22 +43,10 @@ module _ (n : ℕ) (class_of : ℕ → ℕ) where
 
   -- one label more, in class i or in another
   part_same : (s e i : ℕ) → 1 ≤ e → e ≤ n → class_of e ≡ i → part_in n class_of (insert s e) i ≡ insert (part_in n class_of s i) e
-  part_same s e i l g h = ext _ _ (λ f. let a = has_part (insert s e) i f in let b = has_part s i f in go f a b (ℕ_discrete f e))
-    where
-      go : (f : ℕ) → has (part_in n class_of (insert s e) i) f ≡ ((leb 1 f && leb f n) && (has (insert s e) f && eqb (class_of f) i))
-          → has (part_in n class_of s i) f ≡ ((leb 1 f && leb f n) && (has s f && eqb (class_of f) i)) → Dec (f ≡ e)
-          → has (part_in n class_of (insert s e) i) f ≡ has (insert (part_in n class_of s i) e) f
-      go f a b (yes z) = let c = ap class_of z in grind (arith, members)
-      go f a b (no z) = grind (arith, members)
+  part_same s e i l g h = ext _ _ (λ f. let a = has_part (insert s e) i f in let b = has_part s i f in grind (arith, members))
 
   part_other : (s e i : ℕ) → 1 ≤ e → (class_of e ≡ i → ⊥) → part_in n class_of (insert s e) i ≡ part_in n class_of s i
-  part_other s e i l h = ext _ _ (λ f. let a = has_part (insert s e) i f in let b = has_part s i f in go f a b (ℕ_discrete f e))
-    where
-      go : (f : ℕ) → has (part_in n class_of (insert s e) i) f ≡ ((leb 1 f && leb f n) && (has (insert s e) f && eqb (class_of f) i))
-          → has (part_in n class_of s i) f ≡ ((leb 1 f && leb f n) && (has s f && eqb (class_of f) i)) → Dec (f ≡ e)
-          → has (part_in n class_of (insert s e) i) f ≡ has (part_in n class_of s i) f
-      go f a b (yes z) = let c = ap class_of z in grind (arith, members)
-      go f a b (no z) = grind (arith, members)
+  part_other s e i l h = ext _ _ (λ f. let a = has_part (insert s e) i f in let b = has_part s i f in grind (arith, members))
 
   new_in : (s t i e : ℕ) → has (part_in n class_of t i) e ≡ true → has (part_in n class_of s i) e ≡ false
       → (1 ≤ e) × (e ≤ n) × (class_of e ≡ i) × (has t e ≡ true) × (has s e ≡ false)

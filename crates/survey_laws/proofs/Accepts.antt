@@ -1,7 +1,7 @@
 -- The law of the check: it accepts exactly the written forms of lawful sheets, each as the sheet that was written.
 use Rattle.std.proofs.Common.{◌≡◌, ℕ, ◌+◌, ◌≤◌, Bool, true, false, cond, List, [], ◌∷◌, ◌++◌, map, length, Some, None, Ok, Err, decimal, Option, Result, sym, refl, ap, ◌∙◌, subst, inl, inr, arith, length-append}
 use Rattle.std.specs.List.{AllByRecursion}
-use Rattle.std.proofs.lemmas.Bool.{true≢false}
+use Rattle.std.proofs.lemmas.Bool.{both_ways}
 use Rattle.std.proofs.lemmas.Bool.Decides.{nat_tests}
 use Rattle.std.proofs.lemmas.List.{append-nil, append_assoc, length_push}
 use Rattle.std.proofs.lemmas.Option.{none-some}
@@ -110,9 +110,6 @@ lawful_sheet p rs l h F =
 
 -- ---- the law
 
-outside : (n : ℕ) → is_point most_points n ≡ false → 1 ≤ n → n ≤ most_points → ⊥
-outside n h a b = let k : is_point most_points n ≡ true = grind (arith, nat_tests) in true≢false (sym k ∙ h)
-
 pub first_line_is : (l : List ℕ) (p : ℕ) → first_line l ≡ Ok p → (l ≡ decimal p) × (1 ≤ p) × (p ≤ most_points)
 first_line_is l p e = go (number_in l) refl e
   where
@@ -133,7 +130,7 @@ first_line_wrong l w e = go (number_in l) refl e
     ranged n i false h e =
         let v : out_of_range ≡ w = cc in
         let k = number_in_is l n i in
-        subst (WrongCount l) v (n, k.0, k.1, λ r. let a = r.0 in let b = r.1 in absurd (outside n h a b))
+        subst (WrongCount l) v (n, k.0, k.1, λ r. let a = r.0 in let b = r.1 in let k : is_point most_points n ≡ true = grind (arith, nat_tests) in both_ways _ h k)
 
     go : (o : Option ℕ) → number_in l ≡ o → counted o ≡ Err w → WrongCount l w
     go None i e = let v : wrong_form ≡ w = cc in subst (WrongCount l) v (λ p h q. none-some _ (sym i ∙ ap number_in q ∙ number_in_decimal p h))
