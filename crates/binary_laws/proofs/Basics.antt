@@ -1,24 +1,16 @@
--- Facts of flags and of sets alone.
+-- Facts of sets alone.
 use Rattle.std.proofs.Common.{◌≡◌, ℕ, ◌≤◌, Bool, true, false, cond, ◌⊎◌, refl, ap, inl, inr, arith}
-use native.Mathlib.Decide.{ℕ_discrete}
 use lib.Bits.{bit_xor}
 use Rattle.std.proofs.lemmas.Bool.{both_ways, false_from_ne_true}
-use Rattle.labels.specs.Sets.{has, insert, remove, single, Subset, no_label, TopDifference}
+use Rattle.std.proofs.lemmas.Nat.{and_le_l}
+use Rattle.labels.specs.Sets.{has, insert, remove, single, Subset, no_label}
 use Rattle.labels.proofs.Member.{has_pos, members}
-use Rattle.labels.proofs.Card.{ext}
+use Rattle.labels.proofs.Card.{ext, and_subset}
 use Rattle.labels.proofs.Find.{find, no_label_passes}
-use Rattle.labels.proofs.Order.{top, top_less}
 
 -- a part is no larger as a number
 pub subset_le : (t s : ℕ) → Subset t s → t ≤ s
-subset_le t s p = go (ℕ_discrete t s)
-  where
-    go : Dec (t ≡ s) → t ≤ s
-    go (yes e) = omega arith
-    go (no e) = with-top (top t s e)
-      where
-        with-top : (d : ℕ) × TopDifference t s d → t ≤ s
-        with-top (d, T) = let l = top_less t s d T (let x = T.apart in let y = p d in grind arith) in omega arith
+subset_le t s p = omega (arith, and_le_l s t, and_subset t s p)
 
 pub no_label_fails : (t : ℕ → Bool) (n : ℕ) → no_label t n ≡ false → (e : ℕ) × (1 ≤ e) × (e ≤ n) × (t e ≡ true)
 no_label_fails t n h = go (find t n)
