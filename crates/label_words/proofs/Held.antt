@@ -2,9 +2,8 @@
 use Rattle.std.proofs.Common.{◌≡◌, ℕ, zero, suc, ◌-◌, ◌^◌, ◌<◌, ◌≤◌, min, Bool, true, false, cond, ◌&&◌, leb, ◌⊎◌, ap, ◌∙◌, ap₂, inl, inr, arith, pow_pos, pow_mono}
 use lib.Bits.{bit_and, bit_or, bit_xor}
 use Rattle.std.proofs.lemmas.Bool.Decides.{nat_tests}
-use Rattle.labels.specs.Sets.{has, single, full, reopened, difference, swap}
-use Rattle.labels.proofs.Member.{has_zero, has_above, members}
-use Rattle.labels.proofs.Card.{ext}
+use Rattle.labels.specs.Sets.{has, single, full, reopened, swap}
+use Rattle.labels.proofs.Member.{has_zero, has_above}
 use Rattle.labels.proofs.Words.{and_not_is}
 use Rattle.label_words.specs.Words.{word_of}
 
@@ -27,13 +26,6 @@ reopened_is a e x y h p q g =
     let u : min e 64 ≡ e = omega arith in let v : min (e - 1) 64 ≡ e - 1 = omega arith in
     ap₂ (λ (x y : ℕ). bit_or (bit_and a (18446744073709551615 - x)) y) (p ∙ ap full u) (q ∙ ap full v)
     ∙ ap (λ (z : ℕ). bit_or z (full (e - 1))) (and_not_is 64 a (full e) h (full_below e g))
-
-pub reopened_all : (a e x y : ℕ) → a < 2 ^ 64 → x ≡ full (min e 64) → y ≡ full (min (e - 1) 64) → 64 < e → bit_or (bit_and a (18446744073709551615 - x)) y ≡ full 64
-reopened_all a e x y h p q g =
-    let u : min e 64 ≡ 64 = omega arith in let v : min (e - 1) 64 ≡ 64 = omega arith in
-    ap₂ (λ (x y : ℕ). bit_or (bit_and a (18446744073709551615 - x)) y) (p ∙ ap full u) (q ∙ ap full v)
-    ∙ ap (λ (z : ℕ). bit_or z (full 64)) (and_not_is 64 a (full 64) h (full_below 64 (omega arith)))
-    ∙ ext (bit_or (difference a (full 64)) (full 64)) (full 64) (λ f. let z = has_above 64 a f h in grind (arith, members))
 
 -- what `swapped` answers, of labels that a word can hold
 pub swap_is : (s e f r : ℕ) → 1 ≤ e → e ≤ 64 → 1 ≤ f → f ≤ 64 → r ≡ bit_xor s (bit_or (word_of e) (word_of f)) → r ≡ swap s e f
