@@ -1,12 +1,15 @@
 -- More words than places: some of the words, not none, have the sum 0.
 use Rattle.std.proofs.Common.{◌≡◌, ℕ, zero, suc, ◌^◌, ◌<◌, ◌≤◌, Bool, true, false, cond, ◌&&◌, ◌⊎◌, sym, refl, ap, ◌∙◌, inl, inr, arith}
-use lib.Bits.{bit_xor}
+use lib.Bits.{bit_xor, xor_zero_r}
+use Rattle.std.proofs.lemmas.Bool.{and_parts}
+use Rattle.std.proofs.lemmas.Nat.{zero_from_ones}
 use Rattle.labels.specs.Sets.{has, differs, insert, remove, Subset, card}
 use Rattle.labels.proofs.Member.{has_pos, has_none, has_xor, members}
-use Rattle.labels.proofs.Card.{ext, within, within_back, card_zero, card_none, card_remove, some_by_card}
+use Rattle.labels.proofs.Card.{ext, within_back, card_zero, card_remove, some_by_card}
 use Rattle.labels.proofs.Find.{find}
+use Rattle.labels.proofs.Parts.{insert_subset, subset_below, subset_none}
 use Rattle.binary_laws.specs.Binary.{xor_sum}
-use Rattle.binary_laws.proofs.Basics.{fst_of, snd_of, insert_subset, insert_some, subset_of_remove, out_of_remove, none_of, has_cond, xor_none}
+use Rattle.binary_laws.proofs.Basics.{insert_some, subset_of_remove, out_of_remove, has_cond}
 use Rattle.binary_laws.proofs.Sums.{xor_sum_none, xor_sum_insert}
 
 -- the words with the place a cleared by the word q
@@ -30,13 +33,10 @@ clear_step x w q a false hw hx r i p o s = ext _ _ (λ e.
         → has (bit_xor (bit_xor x (cond hx q 0)) 0) e ≡ has (bit_xor (bit_xor x 0) (cond r q 0)) e
     go e l k j = grind (arith, members)
 
-clear_none : (q a : ℕ) (r : Bool) → has 0 a ≡ r → 0 ≡ bit_xor 0 (cond r q 0)
-clear_none q a r h = ext _ _ (λ e. let z = has_none a in let j = has_cond r q 0 e in grind (arith, members))
-
 clear_sum : (c : ℕ → ℕ) (a q t : ℕ) → has q a ≡ true → (m : ℕ)
     → xor_sum (cleared c a q) m t ≡ bit_xor (xor_sum c m t) (cond (has (xor_sum c m t) a) q 0)
 unfolding xor_sum
-clear_sum c a q t i zero = clear_none q a (has 0 a) refl
+clear_sum c a q t i zero = ap (λ (b : Bool). cond b q 0) (sym (has_none a))
 clear_sum c a q t i (suc m) =
     ap (λ (z : ℕ). bit_xor z (cond (has t (suc m)) (cleared c a q (suc m)) 0)) (clear_sum c a q t i m)
     ∙ clear_step (xor_sum c m t) (c (suc m)) q a (has t (suc m)) (has (c (suc m)) a) (has (xor_sum c m t) a) _ i refl refl refl
@@ -52,7 +52,7 @@ module _ (n : ℕ) where
   pub dependent : (k a b : ℕ) (c : ℕ → ℕ) → card a ≡ k → k < card b → b < 2 ^ n → ((e : ℕ) → has b e ≡ true → Subset (c e) a)
       → (t : ℕ) × Subset t b × (t ≡ 0 → ⊥) × (xor_sum c n t ≡ 0)
   dependent zero a b c h l g f =
-      (b, λ e m. m, λ z. omega (arith, ap card z, card_zero), xor_sum_none c n b (λ e x y m. none_of (c e) a (f e m) (card_none a h)))
+      (b, λ e m. m, λ z. omega (arith, ap card z, card_zero), xor_sum_none c n b (λ e x y m. subset_none (c e) a (f e m) (zero_from_ones a h)))
   dependent (suc k) a b c h l g f = from (some_by_card a (omega arith)) (dependent k)
     where
       from : (x : ℕ) × (has a x ≡ true) → ((a b : ℕ) (c : ℕ → ℕ) → card a ≡ k → k < card b → b < 2 ^ n → ((e : ℕ) → has b e ≡ true → Subset (c e) a)
@@ -75,13 +75,13 @@ module _ (n : ℕ) where
               in_b e y = subset_of_remove (remove b p) b p (λ e y. y) e y
 
               less : remove b p < 2 ^ n
-              less = within n (remove b p) (λ e y. within_back n b e g (in_b e y))
+              less = subset_below n (remove b p) b in_b g
 
               back : (t : ℕ) × Subset t (remove b p) × (t ≡ 0 → ⊥) × (xor_sum (cleared c x (c p)) n t ≡ 0) → (t : ℕ) × Subset t b × (t ≡ 0 → ⊥) × (xor_sum c n t ≡ 0)
               back (t, q, r, s) = ends (has (xor_sum c n t) x) (sym (clear_sum c x (c p) t o n) ∙ s)
                 where
                   ends : (r : Bool) → bit_xor (xor_sum c n t) (cond r (c p) 0) ≡ 0 → (t : ℕ) × Subset t b × (t ≡ 0 → ⊥) × (xor_sum c n t ≡ 0)
-                  ends false z = (t, subset_of_remove t b p q, r, sym (xor_none (xor_sum c n t)) ∙ z)
+                  ends false z = (t, subset_of_remove t b p q, r, sym (xor_zero_r (xor_sum c n t)) ∙ z)
                   ends true z = (
                     insert t p,
                     insert_subset t b p (subset_of_remove t b p q) m,
@@ -93,4 +93,4 @@ module _ (n : ℕ) where
               → (t : ℕ) × Subset t b × (t ≡ 0 → ⊥) × (xor_sum c n t ≡ 0)
           go (inr none) = ih (remove a x) b c small (omega arith) g
               (λ e m. remove_only (c e) a x (f e m) i (unused e m (none e (has_pos b e m) (within_back n b e g m))))
-          go (inl (p, u, w, y)) = pivot p u w (fst_of (has b p) (has (c p) x) y) (snd_of (has b p) (has (c p) x) y)
+          go (inl (p, u, w, y)) = pivot p u w (and_parts _ _ y).0 (and_parts _ _ y).1

@@ -1,20 +1,20 @@
 -- What reduction by a table of pivots does.
 use Rattle.std.proofs.Common.{◌≡◌, ℕ, zero, suc, ◌<◌, ◌≤◌, Bool, true, false, cond, ◌⊎◌, sym, refl, ap, ◌∙◌, ap₂, inl, inr, arith}
 use native.Mathlib.Decide.{ℕ_discrete}
-use lib.Bits.{bit_xor}
-use Rattle.labels.specs.Sets.{has, differs, Subset}
+use lib.Bits.{bit_xor, xor_self, xor_zero_r}
+use Rattle.std.proofs.lemmas.Bool.{both_ways}
+use Rattle.labels.specs.Sets.{has, Subset}
 use Rattle.labels.proofs.Member.{has_pos, has_xor, members}
 use Rattle.labels.proofs.Card.{ext}
+use Rattle.labels.proofs.Parts.{none_subset}
 use Rattle.binary_laws.specs.Binary.{xor_sum}
 use Rattle.binary_laws.specs.Elimination.{Leading, Echelon, cancelled, reduced}
-use Rattle.binary_laws.proofs.Basics.{never, none_subset, has_cond, xor_none, xor_same, xor_subset}
-use Rattle.binary_laws.proofs.Sums.{linear, xor_sum_empty}
+use Rattle.binary_laws.proofs.Basics.{xor_subset}
+use Rattle.binary_laws.proofs.Sums.{linear, mixed, xor_sum_empty}
 
-mixed : (x y q : ℕ) (a b r : Bool) → r ≡ differs a b → cond r (bit_xor (bit_xor x y) q) (bit_xor x y) ≡ bit_xor (cond a (bit_xor x q) x) (cond b (bit_xor y q) y)
-mixed x y q true true r h = ext _ _ (λ e. let c = has_cond r (bit_xor (bit_xor x y) q) (bit_xor x y) e in grind (arith, members))
-mixed x y q true false r h = ext _ _ (λ e. let c = has_cond r (bit_xor (bit_xor x y) q) (bit_xor x y) e in grind (arith, members))
-mixed x y q false true r h = ext _ _ (λ e. let c = has_cond r (bit_xor (bit_xor x y) q) (bit_xor x y) e in grind (arith, members))
-mixed x y q false false r h = ext _ _ (λ e. let c = has_cond r (bit_xor (bit_xor x y) q) (bit_xor x y) e in grind (arith, members))
+cond_xor : (b : Bool) (x q : ℕ) → cond b (bit_xor x q) x ≡ bit_xor x (cond b q 0)
+cond_xor true x q = refl
+cond_xor false x q = sym (xor_zero_r x)
 
 regroup : (x k r : ℕ) → bit_xor (bit_xor (bit_xor x k) r) k ≡ bit_xor x r
 regroup x k r = ext _ _ (λ e. grind (arith, members))
@@ -24,18 +24,22 @@ module _ (p : ℕ → ℕ) where
   unfolding reduced
   reduced_linear zero x y = refl
   reduced_linear (suc m) x y =
-      ap (reduced p m) (mixed x y (p (suc m)) (has x (suc m)) (has y (suc m)) (has (bit_xor x y) (suc m)) (has_xor x y (suc m)))
+      ap (reduced p m) (
+      cond_xor (has (bit_xor x y) (suc m)) (bit_xor x y) (p (suc m))
+      ∙ mixed x y (p (suc m)) (has x (suc m)) (has y (suc m)) (has (bit_xor x y) (suc m)) (has_xor x y (suc m))
+      ∙ ap₂ bit_xor (sym (cond_xor (has x (suc m)) x (p (suc m)))) (sym (cond_xor (has y (suc m)) y (p (suc m))))
+      )
       ∙ reduced_linear m (cancelled p (suc m) x) (cancelled p (suc m) y)
 
   pub reduced_none : (m : ℕ) → reduced p m 0 ≡ 0
-  reduced_none m = sym (ap (reduced p m) (xor_same 0)) ∙ reduced_linear m 0 0 ∙ xor_same (reduced p m 0)
+  reduced_none m = sym (ap (reduced p m) (xor_self 0)) ∙ reduced_linear m 0 0 ∙ xor_self (reduced p m 0)
 
   -- words that are reduced to 0 have a sum that is
   pub reduced_sum : (v : ℕ → ℕ) (m t n : ℕ) → ((e : ℕ) → has t e ≡ true → reduced p m (v e) ≡ 0) → reduced p m (xor_sum v n t) ≡ 0
   unfolding xor_sum
   reduced_sum v m t zero f = reduced_none m
   reduced_sum v m t (suc n) f =
-      reduced_linear m (xor_sum v n t) (cond (has t (suc n)) (v (suc n)) 0) ∙ ap₂ bit_xor (reduced_sum v m t n f) (go (has t (suc n)) refl) ∙ xor_none 0
+      reduced_linear m (xor_sum v n t) (cond (has t (suc n)) (v (suc n)) 0) ∙ ap₂ bit_xor (reduced_sum v m t n f) (go (has t (suc n)) refl) ∙ xor_zero_r 0
     where
       go : (b : Bool) → has t (suc n) ≡ b → reduced p m (cond b (v (suc n)) 0) ≡ 0
       go true h = f (suc n) h
@@ -45,7 +49,7 @@ module _ (p : ℕ → ℕ) where
   pub reduced_made : (v : ℕ → ℕ) (n t : ℕ) → ((k : ℕ) → (c : ℕ) × Subset c t × (xor_sum v n c ≡ p k)) → (m x : ℕ)
       → (c : ℕ) × Subset c t × (xor_sum v n c ≡ bit_xor x (reduced p m x))
   unfolding reduced
-  reduced_made v n t f zero x = (0, none_subset t, xor_sum_empty v n ∙ sym (xor_same x))
+  reduced_made v n t f zero x = (0, none_subset t, xor_sum_empty v n ∙ sym (xor_self x))
   reduced_made v n t f (suc m) x = go (has x (suc m)) (reduced_made v n t f m)
     where
       go : (b : Bool) → ((x : ℕ) → (c : ℕ) × Subset c t × (xor_sum v n c ≡ bit_xor x (reduced p m x)))
@@ -68,8 +72,8 @@ module _ (p : ℕ → ℕ) where
     where
       go : (b : Bool) → has x k ≡ b → (p k ≡ 0) ⊎ (has x k ≡ false) → cond b (bit_xor x (p k)) x ≡ x
       go false h c = refl
-      go true h (inl z) = ap (bit_xor x) z ∙ xor_none x
-      go true h (inr z) = absurd (never (has x k) h z)
+      go true h (inl z) = ap (bit_xor x) z ∙ xor_zero_r x
+      go true h (inr z) = absurd (both_ways (has x k) z h)
 
   -- such places above k may be passed over
   reduced_skip : (m k x : ℕ) → k ≤ m → ((j : ℕ) → k < j → (p j ≡ 0) ⊎ (has x j ≡ false)) → reduced p m x ≡ reduced p k x
@@ -87,7 +91,7 @@ module _ (p : ℕ → ℕ) where
       where
         go : (b : Bool) → (p k ≡ 0) ⊎ Leading (p k) k → has (cond b (bit_xor x (p k)) x) j ≡ has x j
         go false c = refl
-        go true (inl z) = ap (λ (y : ℕ). has (bit_xor x y) j) z ∙ ap (λ (y : ℕ). has y j) (xor_none x)
+        go true (inl z) = ap (λ (y : ℕ). has (bit_xor x y) j) z ∙ ap (λ (y : ℕ). has y j) (xor_zero_r x)
         go true (inr P) = let o = P.above j l in let z = has_xor x (p k) j in grind arith
 
     -- the places above m are left as they are
@@ -107,11 +111,11 @@ module _ (p : ℕ → ℕ) where
         go (inr P) =
             reduced_skip m (suc k) (p (suc k)) b (λ j l. inr (P.above j l))
             ∙ ap (λ (c : Bool). reduced p k (cond c (bit_xor (p (suc k)) (p (suc k))) (p (suc k)))) P.on
-            ∙ ap (reduced p k) (xor_same (p (suc k))) ∙ reduced_none k
+            ∙ ap (reduced p k) (xor_self (p (suc k))) ∙ reduced_none k
 
     -- so a pivot more or less in a word changes nothing
     pub reduced_step : (m k x : ℕ) → 1 ≤ k → k ≤ m → reduced p m (bit_xor x (p k)) ≡ reduced p m x
-    reduced_step m k x a b = reduced_linear m x (p k) ∙ ap (bit_xor (reduced p m x)) (reduced_pivot m k a b) ∙ xor_none (reduced p m x)
+    reduced_step m k x a b = reduced_linear m x (p k) ∙ ap (bit_xor (reduced p m x)) (reduced_pivot m k a b) ∙ xor_zero_r (reduced p m x)
 
 reduced_same : (p q : ℕ → ℕ) (m x : ℕ) → ((k : ℕ) → 1 ≤ k → k ≤ m → q k ≡ p k) → reduced q m x ≡ reduced p m x
 unfolding reduced
@@ -122,7 +126,7 @@ reduced_same p q (suc m) x f =
 
 reduced_cond : (p : ℕ → ℕ) (m x y : ℕ) (b : Bool) → reduced p m (cond b (bit_xor y x) y) ≡ bit_xor (reduced p m y) (cond b (reduced p m x) 0)
 reduced_cond p m x y true = reduced_linear p m y x
-reduced_cond p m x y false = sym (xor_none (reduced p m y))
+reduced_cond p m x y false = sym (xor_zero_r (reduced p m y))
 
 -- one pivot more, x at its highest place k, which had none
 module _ (p q : ℕ → ℕ) (echelon : Echelon p) (x k : ℕ) (none : p k ≡ 0) (leads : Leading x k) (new : q k ≡ x) (old : (j : ℕ) → (j ≡ k → ⊥) → q j ≡ p j) where

@@ -1,14 +1,15 @@
 -- A table of pivots for a set of labels, and one label more.
 use Rattle.std.proofs.Common.{◌≡◌, ℕ, zero, suc, ◌<◌, ◌≤◌, Bool, true, false, cond, ◌⊎◌, List, length, get_or, set, replicate, sym, refl, ap, ◌∙◌, subst, ap₂, inl, inr, arith, length-set, get_or-set_other, get_or-set_same, pow_pos}
 use native.Mathlib.Decide.{ℕ_discrete}
-use lib.Bits.{bit_xor}
-use Rattle.std.proofs.lemmas.Bool.{cases_Bool}
+use lib.Bits.{bit_xor, xor_self, xor_zero_r}
+use Rattle.std.proofs.lemmas.Bool.{both_ways, cases_Bool}
 use Rattle.labels.specs.Sets.{has, insert, remove, Subset}
 use Rattle.labels.proofs.Member.{has_pos, has_none, members}
 use Rattle.labels.proofs.Card.{ext}
+use Rattle.labels.proofs.Parts.{insert_below, insert_both, insert_more, subset_none}
 use Rattle.binary_laws.specs.Binary.{xor_sum, LinearlyIndependent}
 use Rattle.binary_laws.specs.Elimination.{places, pivot, Leading, Echelon, reduced, Grown}
-use Rattle.binary_laws.proofs.Basics.{never, subset_none, insert_below, remove_subset, out_subset, insert_some, out_of, insert_both, insert_more, insert_is, xor_none, xor_same, xor_subset}
+use Rattle.binary_laws.proofs.Basics.{remove_subset, out_subset, insert_some, out_of, insert_is, xor_subset}
 use Rattle.binary_laws.proofs.Sums.{linear, xor_sum_empty, xor_sum_remove, xor_sum_insert}
 use Rattle.binary_laws.proofs.Reduction.{reduced_sum, reduced_made, reduced_more, reduced_leads}
 
@@ -24,14 +25,6 @@ pub record Table (n : ℕ) (v : ℕ → ℕ) (t : ℕ) (p : ℕ → ℕ) : Type 
   pub gone : (e : ℕ) → has t e ≡ true → reduced p places (v e) ≡ 0
   pub independent : LinearlyIndependent n v t
 
-pub at_start : (n : ℕ) (v p : ℕ → ℕ) → ((k : ℕ) → p k ≡ 0) → Table n v 0 p
-at_start n v p f = record {
-  echelon = λ k. inl (f k);
-  made = λ k. (0, λ e m. m, xor_sum_empty v n ∙ sym (f k));
-  gone = λ e m. absurd (never (has 0 e) m (has_none e));
-  independent = record { inside = pow_pos n; free = λ t p z. subset_none t p };
-}
-
 module _ (n : ℕ) (v : ℕ → ℕ) (t : ℕ) (p : ℕ → ℕ) (P : Table n v t p) (e : ℕ) (l : 1 ≤ e) (g : e ≤ n) (o : has t e ≡ false) where
   -- reduced to 0: t with e is dependent
   pub refuses : reduced p places (v e) ≡ 0 → LinearlyIndependent n v (insert t e) → ⊥
@@ -40,7 +33,7 @@ module _ (n : ℕ) (v : ℕ → ℕ) (t : ℕ) (p : ℕ → ℕ) (P : Table n v 
       go : (c : ℕ) × Subset c t × (xor_sum v n c ≡ bit_xor (v e) (reduced p places (v e))) → ⊥
       go (c, q, w) =
           insert_some c e l (F.free (insert c e) (insert_both c t e l q)
-          (xor_sum_insert v n c e l g (out_of c t e q o) ∙ ap (λ (x : ℕ). bit_xor x (v e)) (w ∙ ap (bit_xor (v e)) z ∙ xor_none (v e)) ∙ xor_same (v e)))
+          (xor_sum_insert v n c e l g (out_of c t e q o) ∙ ap (λ (x : ℕ). bit_xor x (v e)) (w ∙ ap (bit_xor (v e)) z ∙ xor_zero_r (v e)) ∙ xor_self (v e)))
 
   -- else what is left, x, is the new pivot at its highest place k
   module _ (x k : ℕ) (same : reduced p places x ≡ reduced p places (v e)) (leads : Leading x k) (b : k ≤ places) (vacant : p k ≡ 0)
@@ -55,10 +48,10 @@ module _ (n : ℕ) (v : ℕ → ℕ) (t : ℕ) (p : ℕ → ℕ) (P : Table n v 
     all_gone f m (yes z) =
         ap (λ (y : ℕ). reduced q places (v y)) z ∙ after (v e)
         ∙ ap (λ (y : ℕ). bit_xor y (cond (has y k) (reduced p places x) 0)) (sym same)
-        ∙ ap (λ (c : Bool). bit_xor (reduced p places x) (cond c (reduced p places x) 0)) on ∙ xor_same (reduced p places x)
+        ∙ ap (λ (c : Bool). bit_xor (reduced p places x) (cond c (reduced p places x) 0)) on ∙ xor_self (reduced p places x)
     all_gone f m (no z) =
         after (v f) ∙ ap (λ (y : ℕ). bit_xor y (cond (has y k) (reduced p places x) 0)) (P.gone f (insert_is t e f l m z))
-        ∙ ap (λ (c : Bool). bit_xor 0 (cond c (reduced p places x) 0)) (has_none k) ∙ xor_none 0
+        ∙ ap (λ (c : Bool). bit_xor 0 (cond c (reduced p places x) 0)) (has_none k) ∙ xor_zero_r 0
 
     still_free : (u : ℕ) → Subset u (insert t e) → xor_sum v n u ≡ 0 → (has u e ≡ true) ⊎ (has u e ≡ false) → u ≡ 0
     still_free u r z (inr w) = P.independent.free u (out_subset u t e l r w) z
@@ -66,7 +59,7 @@ module _ (n : ℕ) (v : ℕ → ℕ) (t : ℕ) (p : ℕ → ℕ) (P : Table n v 
         let none : reduced p places x ≡ 0 =
         same ∙ ap (reduced p places) (sym (xor_sum_remove v n u e l g w z))
         ∙ reduced_sum p v places (remove u e) n (λ f m. P.gone f (remove_subset u t e l r f m)) in
-        absurd (never (has (reduced p places x) k) on (ap (λ (y : ℕ). has y k) none ∙ has_none k))
+        absurd (both_ways (has (reduced p places x) k) (ap (λ (y : ℕ). has y k) none ∙ has_none k) on)
 
     pub joins : Table n v (insert t e) q
     joins = record {
@@ -121,7 +114,12 @@ pivot_blank n zero = refl
 pivot_blank n (suc k) = get_d_blank n k
 
 pub blank_table : (n : ℕ) (v : ℕ → ℕ) (m : ℕ) → Table n v 0 (pivot (replicate m 0))
-blank_table n v m = at_start n v (pivot (replicate m 0)) (pivot_blank m)
+blank_table n v m = record {
+  echelon = λ k. inl (pivot_blank m k);
+  made = λ k. (0, λ e i. i, xor_sum_empty v n ∙ sym (pivot_blank m k));
+  gone = λ e i. absurd (both_ways (has 0 e) (has_none e) i);
+  independent = record { inside = pow_pos n; free = λ t p z. subset_none t 0 p refl };
+}
 
 pub grown_length : (ps : List ℕ) (w : ℕ) (qs : List ℕ) → Grown ps w qs → length qs ≡ length ps
 grown_length ps w qs G = ap length G.stored ∙ length-set ps G.index G.left

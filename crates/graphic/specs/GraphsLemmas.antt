@@ -8,9 +8,9 @@ use Rattle.entries.proofs.Places.{values_few}
 use Rattle.std.proofs.Math.ListN.{get_or-eq_default}
 use Rattle.std.proofs.lemmas.List.{get_or-map, map-append, length-map}
 use Rattle.std.proofs.lemmas.Bool.Decides.{nat_tests}
+use Rattle.std.specs.Int.Bits.{xor_self}
 use Rattle.labels.specs.Sets.{single, limit}
 use Rattle.binary_laws.specs.Graphic.{incidence, Joined}
-use Rattle.binary_laws.proofs.Basics.{xor_same}
 use Rattle.graphic.specs.declared.edge.Edge.{Edge}
 use Rattle.graphic.specs.declared.graph.Graphic.{Graphic}
 use Rattle.graphic.specs.Points.{in_range}
@@ -35,7 +35,7 @@ loop = record {
   ahigh = omega arith;
   blow = omega arith;
   bhigh = omega arith;
-  joins = sym (xor_same (single 1));
+  joins = sym (xor_self (single 1));
 }
 
 module _ (g : Graphic) where
@@ -86,7 +86,7 @@ module _ (g : Graphic) where
 
   pub column_is : (label : ℕ) (c : ℕ) → MatchOption (entry_at (values g.edges) label) (c ≡ 0) (λ e. c ≡ e.column)
       → c ≡ incidence (first_end (graph g)) (second_end (graph g)) label
-  column_is zero c h = h ∙ sym (xor_same (single 0))
+  column_is zero c h = h ∙ sym (xor_self (single 0))
   column_is (suc k) c h = go (slice_get_cases (values g.edges) k).1
     where
       go : ((x : Edge) × (k < length (values g.edges)) × (slice_get (values g.edges) k ≡ Some x) × (get_or (values g.edges) k x ≡ x))
@@ -96,7 +96,7 @@ module _ (g : Graphic) where
           ∙ sym (ap (λ (p : ℕ × ℕ). bit_xor (single p.0) (single p.1)) (read_place k x l ∙ ap ends_of r))
       go (inr (l, q)) =
           subst (λ (o : Option Edge). MatchOption o (c ≡ 0) (λ e. c ≡ e.column)) q h
-          ∙ sym (ap (λ (p : ℕ × ℕ). bit_xor (single p.0) (single p.1)) (none_place k l) ∙ xor_same (single 0))
+          ∙ sym (ap (λ (p : ℕ × ℕ). bit_xor (single p.0) (single p.1)) (none_place k l) ∙ xor_self (single 0))
 
   pub ends_found : (label : ℕ) (d : Edge) → in_range (length (values g.edges)) label ≡ true
       → Some (ends_of (slice_index_or (values g.edges) (label - 1) d)) ≡ ends_at (graph g) label
@@ -114,7 +114,7 @@ module _ (g : Graphic) where
       (get_or (values g.edges) (label - 1) d).joins ∙ sym (ap (λ (p : ℕ × ℕ). bit_xor (single p.0) (single p.1)) (ends_read label d l h))
 
   pub column_none : (label : ℕ) → (1 ≤ label → label ≤ length (values g.edges) → ⊥) → 0 ≡ incidence (first_end (graph g)) (second_end (graph g)) label
-  column_none label f = sym (ap (λ (p : ℕ × ℕ). bit_xor (single p.0) (single p.1)) (ends_none label f) ∙ xor_same (single 0))
+  column_none label f = sym (ap (λ (p : ℕ × ℕ). bit_xor (single p.0) (single p.1)) (ends_none label f) ∙ xor_self (single 0))
 
 -- what an entry makes
 

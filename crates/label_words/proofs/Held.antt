@@ -2,23 +2,13 @@
 use Rattle.std.proofs.Common.{◌≡◌, ℕ, zero, suc, ◌-◌, ◌^◌, ◌<◌, ◌≤◌, min, Bool, true, false, cond, ◌&&◌, leb, ◌⊎◌, ap, ◌∙◌, ap₂, inl, inr, arith, pow_pos, pow_mono}
 use lib.Bits.{bit_and, bit_or, bit_xor}
 use Rattle.std.proofs.lemmas.Bool.Decides.{nat_tests}
-use Rattle.labels.specs.Sets.{has, single, full, reopened, difference, insert, swap}
-use Rattle.labels.proofs.Member.{has_zero, has_above, members}
-use Rattle.labels.proofs.Card.{ext}
+use Rattle.labels.specs.Sets.{has, single, full, reopened, swap}
+use Rattle.labels.proofs.Member.{has_zero, has_above}
 use Rattle.labels.proofs.Words.{and_not_is}
 use Rattle.label_words.specs.Words.{word_of}
 
-flag_in : (e : ℕ) → 1 ≤ e → e ≤ 64 → (leb 1 e && leb e 64) ≡ true
-flag_in e l g = grind (arith, nat_tests)
-
-flag_out : (e : ℕ) → (1 ≤ e → e ≤ 64 → ⊥) → (leb 1 e && leb e 64) ≡ false
-flag_out e h = grind (arith, nat_tests)
-
 pub word_in : (e : ℕ) → 1 ≤ e → e ≤ 64 → word_of e ≡ single e
-word_in e l g = ap (λ (b : Bool). cond b (single e) 0) (flag_in e l g)
-
-pub word_out : (e : ℕ) → (1 ≤ e → e ≤ 64 → ⊥) → word_of e ≡ 0
-word_out e h = ap (λ (b : Bool). cond b (single e) 0) (flag_out e h)
+word_in e l g = let f : (leb 1 e && leb e 64) ≡ true = grind (arith, nat_tests) in ap (λ (b : Bool). cond b (single e) 0) f
 
 pub has_beyond : (s e : ℕ) → s < 2 ^ 64 → (1 ≤ e → e ≤ 64 → ⊥) → has s e ≡ false
 has_beyond s zero h out = has_zero s
@@ -37,16 +27,6 @@ reopened_is a e x y h p q g =
     ap₂ (λ (x y : ℕ). bit_or (bit_and a (18446744073709551615 - x)) y) (p ∙ ap full u) (q ∙ ap full v)
     ∙ ap (λ (z : ℕ). bit_or z (full (e - 1))) (and_not_is 64 a (full e) h (full_below e g))
 
-pub reopened_all : (a e x y : ℕ) → a < 2 ^ 64 → x ≡ full (min e 64) → y ≡ full (min (e - 1) 64) → 64 < e → bit_or (bit_and a (18446744073709551615 - x)) y ≡ full 64
-reopened_all a e x y h p q g =
-    let u : min e 64 ≡ 64 = omega arith in let v : min (e - 1) 64 ≡ 64 = omega arith in
-    ap₂ (λ (x y : ℕ). bit_or (bit_and a (18446744073709551615 - x)) y) (p ∙ ap full u) (q ∙ ap full v)
-    ∙ ap (λ (z : ℕ). bit_or z (full 64)) (and_not_is 64 a (full 64) h (full_below 64 (omega arith)))
-    ∙ ext (bit_or (difference a (full 64)) (full 64)) (full 64) (λ f. let z = has_above 64 a f h in grind (arith, members))
-
--- what `inserted` and `swapped` answer, of labels that a word can hold
-pub insert_is : (s e r : ℕ) → 1 ≤ e → e ≤ 64 → r ≡ bit_or s (word_of e) → r ≡ insert s e
-insert_is s e r l g h = h ∙ ap (bit_or s) (word_in e l g)
-
+-- what `swapped` answers, of labels that a word can hold
 pub swap_is : (s e f r : ℕ) → 1 ≤ e → e ≤ 64 → 1 ≤ f → f ≤ 64 → r ≡ bit_xor s (bit_or (word_of e) (word_of f)) → r ≡ swap s e f
 swap_is s e f r l g k m h = h ∙ ap (λ (x : ℕ). bit_xor s (bit_or x (word_of f))) (word_in e l g) ∙ ap (λ (x : ℕ). bit_xor s (bit_or (single e) x)) (word_in f k m)

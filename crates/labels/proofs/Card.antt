@@ -1,8 +1,9 @@
 -- Two sets with the same members are equal; how many members a set has.
-use Rattle.std.proofs.Common.{◌≡◌, ℕ, zero, suc, ◌+◌, ◌-◌, ◌/◌, ◌%◌, ◌^◌, ◌<◌, ◌≤◌, true, false, ◌⊎◌, sym, refl, ap, ◌∙◌, inl, inr, arith}
+use Rattle.std.proofs.Common.{◌≡◌, ℕ, zero, suc, ◌+◌, ◌-◌, ◌/◌, ◌^◌, ◌<◌, ◌≤◌, true, false, sym, refl, ap, ◌∙◌, arith}
 use lib.Arith.{bin_ind}
-use lib.Bits.{bit_and, bit_or, and_shr, or_shr, or_add_and}
-use lib.Count.{ones, ones_step}
+use lib.Bits.{bit_and, bit_or, bit_xor, and_shr, or_shr, or_add_and}
+use lib.Count.{ones, ones_step, leading_top}
+use Rattle.std.proofs.lemmas.Nat.{zero_from_ones}
 use Rattle.labels.specs.Sets.{bit, has, single, difference, insert, remove, Subset, card}
 use Rattle.labels.proofs.Member.{bit_low, bit_up, bit_zero, has_above, has_pos, members}
 
@@ -16,6 +17,9 @@ bit_ext (suc n) a b h l same =
 pub ext : (a b : ℕ) → ((e : ℕ) → has a e ≡ has b e) → a ≡ b
 unfolding has
 ext a b same = bit_ext (a + b) a b (omega arith) (omega arith) (λ k. same (suc k))
+
+pub xor_back : (a b : ℕ) → bit_xor a b ≡ 0 → a ≡ b
+xor_back a b z = ext _ _ (λ e. let q = ap (λ (x : ℕ). has x e) z in grind (arith, members))
 
 -- a set within 1..n is a number below 2 ^ n
 bit_within : (n s : ℕ) → ((k : ℕ) → n ≤ k → bit s k ≡ false) → s < 2 ^ n
@@ -35,10 +39,6 @@ pub card_zero : card 0 ≡ 0
 unfolding ones
 card_zero = refl
 
-card_of_1 : ones 1 ≡ 1
-unfolding ones
-card_of_1 = refl
-
 pub card_or_and : (a b : ℕ) → card (bit_or a b) + card (bit_and a b) ≡ card a + card b
 card_or_and =
     bin_ind (λ (n : ℕ). (b : ℕ) → card (bit_or n b) + card (bit_and n b) ≡ card n + card b) (λ b. omega arith)
@@ -54,28 +54,32 @@ card_split t s =
     let p = card_or_and (bit_and t s) (difference t s) in let z = card_zero in
     let o' = ap ones o in let a' = ap ones a in omega arith
 
-pub card_none : (s : ℕ) → card s ≡ 0 → s ≡ 0
-card_none = bin_ind (λ (n : ℕ). card n ≡ 0 → n ≡ 0) (λ _. refl) (λ n ih h. let s = ones_step n in let i = ih (omega arith) in omega arith)
+-- the highest member
+pub top_is : (j s : ℕ) → 2 ^ j ≤ s → s < 2 ^ suc j → (has s (suc j) ≡ true) × ((e : ℕ) → suc j < e → has s e ≡ false)
+unfolding has
+top_is j s h l = (at j s h l, λ e g. has_above (suc j) s e l g)
+  where
+    at : (j s : ℕ) → 2 ^ j ≤ s → s < 2 ^ suc j → bit s j ≡ true
+    at zero s h l = let p = bit_low s in let e : s ≡ 1 = omega arith in grind arith
+    at (suc j) s h l = bit_up s j ∙ at j (s / 2) (omega arith) (omega arith)
+
+below_pow : (s : ℕ) → s < 2 ^ s
+below_pow zero = omega arith
+below_pow (suc s) = let h = below_pow s in omega arith
+
+pub highest : (s : ℕ) → 0 < s → (d : ℕ) × (has s d ≡ true) × ((e : ℕ) → d < e → has s e ≡ false)
+highest s h = let r = leading_top s s h (below_pow s) in let t = top_is r.0 s r.2 r.3 in (suc r.0, t.0, t.1)
 
 -- a set that is not empty has a member
-bit_some : (s : ℕ) → 0 < s → (k : ℕ) × (bit s k ≡ true)
-bit_some = bin_ind (λ (n : ℕ). 0 < n → (k : ℕ) × (bit n k ≡ true)) (λ h. absurd (omega arith)) (λ n ih h. go n ih h (bit_low n))
-  where
-    go : (n : ℕ) → (0 < n / 2 → (k : ℕ) × (bit (n / 2) k ≡ true)) → 0 < n → ((bit n 0 ≡ true) × (n % 2 ≡ 1)) ⊎ ((bit n 0 ≡ false) × (n % 2 ≡ 0))
-        → (k : ℕ) × (bit n k ≡ true)
-    go n ih h (inl p) = (0, p.0)
-    go n ih h (inr p) = let r = ih (omega arith) in (suc r.0, bit_up n r.0 ∙ r.1)
-
 pub some : (s : ℕ) → 0 < s → (e : ℕ) × (has s e ≡ true)
-unfolding has
-some s h = let r = bit_some s h in (suc r.0, r.1)
+some s h = let r = highest s h in (r.0, r.1)
 
 pub some_by_card : (s : ℕ) → 0 < card s → (e : ℕ) × (has s e ≡ true)
 some_by_card zero h = absurd (let z = card_zero in omega arith)
 some_by_card (suc s) h = some (suc s) (omega arith)
 
 card_pow : (k : ℕ) → ones (2 ^ k) ≡ 1
-card_pow zero = card_of_1
+card_pow zero = let s = ones_step 1 in let z = card_zero in omega arith
 card_pow (suc k) = let s = ones_step (2 ^ suc k) in let e : 2 ^ suc k / 2 ≡ 2 ^ k = omega arith in let e' = ap ones e in let i = card_pow k in omega arith
 
 pub card_single : (e : ℕ) → card (single e) ≡ 1
@@ -92,7 +96,7 @@ card_subset s t p = let a = ap ones (and_subset s t p) in let b = card_split t s
 
 pub subset_eq : (s t : ℕ) → Subset s t → card t ≤ card s → s ≡ t
 subset_eq s t p h =
-    let a = ap ones (and_subset s t p) in let b = card_split t s in let z : difference t s ≡ 0 = card_none (difference t s) (omega arith) in
+    let a = ap ones (and_subset s t p) in let b = card_split t s in let z : difference t s ≡ 0 = zero_from_ones (difference t s) (omega arith) in
     ext _ _ (λ e. let n = ap (λ (x : ℕ). has x e) z in grind (arith, members))
 
 pub card_insert : (s e : ℕ) → 1 ≤ e → has s e ≡ false → card (insert s e) ≡ suc (card s)

@@ -7,3 +7,4 @@ pub mod Swap
 pub mod Listed
 pub mod Find
 pub mod Passing
+pub mod Parts

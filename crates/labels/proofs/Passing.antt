@@ -9,14 +9,12 @@ use Rattle.labels.proofs.Card.{ext}
 pub has_passing : (t : ℕ → Bool) (m f : ℕ) → has (passing t m) f ≡ ((leb 1 f && leb f m) && t f)
 unfolding passing
 has_passing t zero f = has_none f ∙ grind (arith, nat_tests)
-has_passing t (suc m) f = go (t (suc m)) refl (has_passing t m f) (ℕ_discrete f (suc m))
+has_passing t (suc m) f = go (t (suc m)) refl (has_passing t m f)
   where
-    go : (b : Bool) → t (suc m) ≡ b → has (passing t m) f ≡ ((leb 1 f && leb f m) && t f) → Dec (f ≡ suc m)
+    go : (b : Bool) → t (suc m) ≡ b → has (passing t m) f ≡ ((leb 1 f && leb f m) && t f)
         → has (cond b (insert (passing t m) (suc m)) (passing t m)) f ≡ ((leb 1 f && leb f (suc m)) && t f)
-    go true p ih (yes q) = let z = ap t q in let h = has_insert (passing t m) (suc m) f (omega arith) in grind (arith, nat_tests)
-    go true p ih (no q) = let h = has_insert (passing t m) (suc m) f (omega arith) in grind (arith, nat_tests)
-    go false p ih (yes q) = let z = ap t q in grind (arith, nat_tests)
-    go false p ih (no q) = grind (arith, nat_tests)
+    go true p ih = let h = has_insert (passing t m) (suc m) f (omega arith) in grind (arith, nat_tests)
+    go false p ih = grind (arith, nat_tests)
 
 pub passing_same : (t u : ℕ → Bool) (m : ℕ) → ((f : ℕ) → 1 ≤ f → f ≤ m → t f ≡ u f) → passing t m ≡ passing u m
 passing_same t u m same = ext _ _ (λ f. let p = has_passing t m f in let q = has_passing u m f in let r = same f in grind (arith, nat_tests))

@@ -10,7 +10,7 @@ use Rattle.std.proofs.lemmas.List.Folds.{list_all-append, list_any-append, find-
 use Rattle.std.proofs.lemmas.List.Sums.{fold-append}
 use Rattle.std.proofs.lemmas.Grind.{flat_map-append}
 use Rattle.labels.specs.Sets.{has, full, insert, no_label, passing}
-use Rattle.labels.proofs.Member.{has_zero, has_above, has_full, members}
+use Rattle.labels.proofs.Member.{has_above, has_pos, has_full, members}
 use Rattle.labels.proofs.Card.{ext}
 use Rattle.labels.specs.Listed.{labels_in}
 
@@ -96,22 +96,17 @@ flat_labels {A = A} h s n = go (has s (suc n))
 listed : (s f n : ℕ) → list_any (eqb f) (labels_in s n) ≡ ((leb 1 f && leb f n) && has s f)
 unfolding labels_in
 listed s f zero = grind (arith, nat_tests)
-listed s f (suc n) = go (has s (suc n)) refl (listed s f n) (ℕ_discrete f (suc n))
+listed s f (suc n) = go (has s (suc n)) refl (listed s f n)
   where
-    go : (b : Bool) → has s (suc n) ≡ b → list_any (eqb f) (labels_in s n) ≡ ((leb 1 f && leb f n) && has s f) → Dec (f ≡ suc n)
+    go : (b : Bool) → has s (suc n) ≡ b → list_any (eqb f) (labels_in s n) ≡ ((leb 1 f && leb f n) && has s f)
         → list_any (eqb f) (also (suc n) b (labels_in s n)) ≡ ((leb 1 f && leb f (suc n)) && has s f)
-    go true q ih (yes z) = let r = list_any-append (eqb f) (labels_in s n) (suc n ∷ []) in let w = ap (has s) z in grind (arith, nat_tests)
-    go true q ih (no z) = let r = list_any-append (eqb f) (labels_in s n) (suc n ∷ []) in grind (arith, nat_tests)
-    go false q ih (yes z) = let w = ap (has s) z in grind (arith, nat_tests)
-    go false q ih (no z) = grind (arith, nat_tests)
-
-at_zero : (s f : ℕ) → f ≡ 0 → has s f ≡ false
-at_zero s f z = ap (has s) z ∙ has_zero s
+    go true q ih = let r = list_any-append (eqb f) (labels_in s n) (suc n ∷ []) in grind (arith, nat_tests)
+    go false q ih = grind (arith, nat_tests)
 
 pub labels_tell : (s t n : ℕ) → s < 2 ^ n → t < 2 ^ n → labels_in s n ≡ labels_in t n → s ≡ t
 labels_tell s t n h l q = ext s t (λ f.
     let a = listed s f n in let b = listed t f n in let z = ap (list_any (eqb f)) q in
-    let u = has_above n s f h in let v = has_above n t f l in let w = at_zero s f in let x = at_zero t f in grind (arith, nat_tests))
+    let u = has_above n s f h in let v = has_above n t f l in let w = has_pos s f in let x = has_pos t f in grind (arith, nat_tests))
 
 -- ---- what a loop over the labels of s gathers or finds
 

@@ -1,22 +1,17 @@
 -- The forms of the code's words, at w bits, as the sets that they are.
-use Rattle.std.proofs.Common.{◌≡◌, ℕ, zero, suc, ◌+◌, ◌-◌, ◌*◌, ◌/◌, ◌%◌, ◌^◌, ◌<◌, ◌≤◌, true, false, not, ◌&&◌, eqb, ◌⊎◌, sym, refl, ap, ◌∙◌, inl, inr, one-add, arith, pow_pos}
+use Rattle.std.proofs.Common.{◌≡◌, ℕ, zero, suc, ◌+◌, ◌-◌, ◌*◌, ◌/◌, ◌%◌, ◌^◌, ◌<◌, ◌≤◌, true, false, not, ◌&&◌, eqb, ◌⊎◌, sym, refl, ap, ◌∙◌, inl, inr, one-add, arith}
 use lib.Bits.{bit_and, and_mask}
 use lib.Count.{count_leading_zeros, count_trailing_zeros, under, leading_top}
 use Rattle.std.proofs.lemmas.Bool.Decides.{nat_tests}
-use Rattle.std.proofs.lemmas.Bool.{cases_Bool}
 use Rattle.std.proofs.lemmas.Nat.{one_shl, shr-shr, pow_below}
 use Rattle.labels.specs.Sets.{bit, has, single, difference}
-use Rattle.labels.proofs.Member.{bit_up, bit_low, bit_above, bit_not, bit_and_not, has_difference, members}
-use Rattle.labels.proofs.Card.{ext}
+use Rattle.labels.proofs.Member.{bit_up, bit_low, bit_not, bit_and_not, has_difference}
+use Rattle.labels.proofs.Card.{ext, top_is}
 
 -- `1 << (e - 1)`
 pub shl_is : (w e : ℕ) → 1 ≤ e → e ≤ w → (1 * 2 ^ (e - 1)) % 2 ^ w ≡ single e
 unfolding single
 shl_is w e h l = one_shl (e - 1) w (omega arith)
-
-pub single_pos : (e : ℕ) → 0 < single e
-unfolding single
-single_pos e = pow_pos (e - 1)
 
 pub single_below : (w e : ℕ) → 1 ≤ e → e ≤ w → single e < 2 ^ w
 unfolding single
@@ -31,18 +26,6 @@ and_not_is w a b h l = ext (bit_and a ((2 ^ w - 1) - b)) (difference a b) (λ e.
     go zero = refl
     go (suc k) = bit_and_not w a b k h l
 
--- `s & (1 << (e - 1)) != 0`
-pub mask_tests : (s e : ℕ) → 1 ≤ e → not (eqb (bit_and s (single e)) 0) ≡ has s e
-mask_tests s e h = go (cases_Bool (has s e))
-  where
-    go : (has s e ≡ true) ⊎ (has s e ≡ false) → not (eqb (bit_and s (single e)) 0) ≡ has s e
-    go (inl m) =
-        let z : bit_and s (single e) ≡ single e = ext _ _ (λ f. grind (arith, members)) in
-        let p = single_pos e in grind (arith, nat_tests)
-    go (inr m) =
-        let z : bit_and s (single e) ≡ 0 = ext _ _ (λ f. grind (arith, members)) in
-        grind (arith, nat_tests)
-
 -- `(s >> (e - 1)) & 1 == 1`
 bit_div : (s k : ℕ) → bit s k ≡ eqb (s / 2 ^ k % 2) 1
 unfolding bit
@@ -55,23 +38,12 @@ shift_tests s zero h = absurd (omega arith)
 shift_tests s (suc k) h = let p : suc k - 1 ≡ k = omega arith in rw p (ap (λ (x : ℕ). eqb x 1) (and_mask (s / 2 ^ k) 1) ∙ sym (bit_div s k))
 
 -- `64 - s.leading_zeros()`
-bit_highest : (j s : ℕ) → 2 ^ j ≤ s → s < 2 ^ suc j → bit s j ≡ true
-bit_highest zero s h l = let p = bit_low s in let e : s ≡ 1 = omega arith in grind arith
-bit_highest (suc j) s h l = bit_up s j ∙ bit_highest j (s / 2) (omega arith) (omega arith)
-
 pub leading_is : (w s : ℕ) → 0 < s → s < 2 ^ w → (has s (w - count_leading_zeros w s) ≡ true) × ((e : ℕ) → w - count_leading_zeros w s < e → has s e ≡ false)
-unfolding has
 leading_is w s h l = go (leading_top w s h l)
   where
     go : (j : ℕ) × (count_leading_zeros w s + suc j ≡ w) × (2 ^ j ≤ s) × (s < 2 ^ suc j)
         → (has s (w - count_leading_zeros w s) ≡ true) × ((e : ℕ) → w - count_leading_zeros w s < e → has s e ≡ false)
-    go (j, p, q, r) =
-        let e : w - count_leading_zeros w s ≡ suc j = omega arith in
-        rw e (bit_highest j s q r, above)
-      where
-        above : (e : ℕ) → suc j < e → has s e ≡ false
-        above zero g = refl
-        above (suc k) g = bit_above (suc j) s k r (omega arith)
+    go (j, p, q, r) = let e : w - count_leading_zeros w s ≡ suc j = omega arith in rw e (top_is j s q r)
 
 -- `s.trailing_zeros() + 1`
 bit_lowest : (w s : ℕ) → 0 < s → s < 2 ^ w → (bit s (count_trailing_zeros w s) ≡ true) × ((k : ℕ) → k < count_trailing_zeros w s → bit s k ≡ false)

@@ -1,8 +1,8 @@
 -- Matroids made from a matroid below: truncation, dual and minor.
 use Rattle.std.specs.Prelude.{◌≡◌, ℕ, ◌^◌, ◌<◌, Bool, true, ◌&&◌, ◌||◌, ◌⊎◌, ◌↔◌, ◌==◌, bit_and, bit_or, nat_le, nat_lt}
-use Rattle.labels.specs.Sets.{has, insert, full, difference, Subset, card, no_label}
+use Rattle.labels.specs.Sets.{full, difference, Subset, card, no_label}
 use Rattle.matroid_laws.specs.Matroids.{IsMatroid, Base}
-use Rattle.matroid_laws.specs.Greedy.{greedy}
+use Rattle.matroid_laws.specs.Greedy.{joins, greedy}
 
 -- no label in common
 abbrev pub apart : ℕ → ℕ → Bool
@@ -27,13 +27,9 @@ pub record BaseOutside (n : ℕ) (independent : ℕ → Bool) (s : ℕ) : Type 0
   pub is_base : Base n independent base
   pub outside : Subset base (complement n s)
 
--- a label of s that can join b
-abbrev pub joining : (ℕ → Bool) → ℕ → ℕ → ℕ → Bool
-joining independent s b e = has s e && independent (insert b e)
-
 -- the test of it: s is within 1..n, and no label of s can join what greed keeps of the others
 abbrev pub dual : ℕ → (ℕ → Bool) → ℕ → Bool
-dual n independent s = nat_lt s (2 ^ n) && no_label (joining independent s (greedy n independent (complement n s))) n
+dual n independent s = nat_lt s (2 ^ n) && no_label (joins independent s (greedy n independent (complement n s))) n
 
 -- ---- the minor
 

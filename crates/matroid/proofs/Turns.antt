@@ -12,8 +12,7 @@ use Rattle.label_words.specs.Words.{word_of}
 use Rattle.label_words.proofs.Held.{word_in}
 use Rattle.matroid_laws.specs.Matroids.{Base, is_base}
 use Rattle.matroid_laws.proofs.Tests.{base_tells, base_passes}
-use Rattle.matroid_laws.specs.Greedy.{extended, greedy, start}
-use Rattle.matroid.specs.Joining.{joins}
+use Rattle.matroid_laws.specs.Greedy.{joins, extended, greedy, start}
 
 -- the label e joins h where the set stays independent
 abbrev pub kept : (ℕ → Bool) → ℕ → ℕ → ℕ

@@ -1,6 +1,5 @@
 ghost use Rattle.labels.specs.Sets.{card, no_label};
-ghost use Rattle.matroid_laws.specs.Greedy.{extended, greedy as greedy_of, start as start_of};
-ghost use Rattle.matroid.specs.Joining.{joins};
+ghost use Rattle.matroid_laws.specs.Greedy.{joins, extended, greedy as greedy_of, start as start_of};
 ghost use Rattle.matroid_laws.specs.Matroids.{Base, Rank, is_base};
 ghost use Rattle.std.specs.Prelude.{◌≡◌, true, ◌↔◌};
 

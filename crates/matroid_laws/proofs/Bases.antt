@@ -1,7 +1,7 @@
 -- The bases of a matroid: one size, and the two exchanges.
 use Rattle.std.proofs.Common.{◌≡◌, ℕ, zero, suc, ◌+◌, ◌-◌, ◌<◌, ◌≤◌, Bool, true, false, ◌⊎◌, sym, ap, ◌∙◌, inl, inr, arith}
 use lib.Bits.{bit_and, bit_or}
-use Rattle.std.proofs.lemmas.Bool.{cases_lt, cases_Bool}
+use Rattle.std.proofs.lemmas.Bool.{both_ways, cases_lt, false_from_ne_true}
 use Rattle.labels.specs.Sets.{has, insert, remove, Subset, card}
 use Rattle.labels.proofs.Member.{has_pos, members}
 use Rattle.labels.proofs.Card.{within_back, card_insert, card_remove, subset_eq, more}
@@ -25,27 +25,30 @@ out_one : (t b d u f : ℕ) → has b d ≡ true → Subset (insert (bit_and t b
 out_one t b d u f i p q x y = let d1 = has_pos b d i in (λ e m. grind (arith, members), grind (arith, members), grind (arith, members))
 
 module _ (n : ℕ) (independent : ℕ → Bool) (M : IsMatroid n independent) where
-  -- a base is a largest is-independent set
-  pub largest : (b s : ℕ) → Base n independent b → independent s ≡ true → card s ≤ card b
-  largest b s B a = go (cases_lt (card b) (card s))
+  -- an independent set of which no label can join another has no more labels than that
+  pub no_larger : (b s : ℕ) → independent b ≡ true → independent s ≡ true
+      → ((e : ℕ) → 1 ≤ e → e ≤ n → has s e ≡ true → has b e ≡ false → independent (insert b e) ≡ false) → card s ≤ card b
+  no_larger b s i a full = go (cases_lt (card b) (card s))
     where
       go : (card b < card s) ⊎ (card s ≤ card b) → card s ≤ card b
       go (inr h) = h
       go (inl h) =
-          let r = M.augments b s B.is_independent a h in
-          let q = B.full r.0 (has_pos s r.0 r.1) (within_back n s r.0 (M.inside s a) r.1) r.2 in
-          let p = r.3 in absurd (grind arith)
+          let r = M.augments b s i a h in
+          absurd (both_ways _ (full r.0 (has_pos s r.0 r.1) (within_back n s r.0 (M.inside s a) r.1) r.1 r.2) r.3)
+
+  -- a base is a largest independent set
+  pub largest : (b s : ℕ) → Base n independent b → independent s ≡ true → card s ≤ card b
+  largest b s B a = no_larger b s B.is_independent a (λ e l g _ o. B.full e l g o)
 
   pub same_card : (a b : ℕ) → Base n independent a → Base n independent b → card a ≡ card b
   same_card a b A B = omega (arith, largest a b A B.is_independent, largest b a B A.is_independent)
 
-  -- an is-independent set of a base's size is a base
+  -- an independent set of a base's size is a base
   pub base_by_card : (b s : ℕ) → Base n independent b → independent s ≡ true → card s ≡ card b → Base n independent s
-  base_by_card b s B a same = record { is_independent = a; full = λ e l h out. go e l out (cases_Bool (independent (insert s e))) }
-    where
-      go : (e : ℕ) → 1 ≤ e → has s e ≡ false → (independent (insert s e) ≡ true) ⊎ (independent (insert s e) ≡ false) → independent (insert s e) ≡ false
-      go e l out (inr h) = h
-      go e l out (inl h) = absurd (omega (arith, largest b (insert s e) B h, card_insert s e l out))
+  base_by_card b s B a same = record {
+    is_independent = a;
+    full = λ e l h out. false_from_ne_true _ (λ i. omega (arith, same, largest b (insert s e) B i, card_insert s e l out));
+  }
 
   -- T - d + f
   pub exchange : (t b d : ℕ) → Base n independent t → Base n independent b → has t d ≡ true → has b d ≡ false
@@ -58,7 +61,7 @@ module _ (n : ℕ) (independent : ℕ → Bool) (M : IsMatroid n independent) wh
       let f = r.0 in let x = r.1 in let y = r.2 in
       (f, x, not_remove t b d f i o x y, base_by_card t (insert s f) T r.3 (omega (arith, card_insert s f (has_pos b f x) y)))
 
-  -- an is-independent set can be filled up from another to its size
+  -- an independent set can be filled up from another to its size
   pub filled : (k s t : ℕ) → independent s ≡ true → independent t ≡ true → card s + k ≡ card t
       → (u : ℕ) × Subset s u × Subset u (bit_or s t) × (independent u ≡ true) × (card u ≡ card t)
   filled zero s t a b h = (s, λ e m. m, λ e m. grind (arith, members), a, omega arith)

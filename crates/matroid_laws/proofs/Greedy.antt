@@ -1,20 +1,15 @@
 -- What going upwards keeps: an independent set to which no further label that was passed can be added.
-use Rattle.std.proofs.Common.{◌≡◌, ℕ, zero, suc, ◌<◌, ◌≤◌, Bool, true, false, cond, ◌&&◌, ◌⊎◌, sym, refl, ap, ◌∙◌, inl, inr, arith}
+use Rattle.std.proofs.Common.{◌≡◌, ℕ, zero, suc, ◌≤◌, Bool, true, false, cond, ◌&&◌, ◌⊎◌, sym, refl, ap, ◌∙◌, inl, inr, arith}
 use native.Mathlib.Decide.{ℕ_discrete}
-use Rattle.std.proofs.lemmas.Bool.{cases_Bool, cases_lt, true≢false}
+use Rattle.std.proofs.lemmas.Bool.{both_ways, cases_Bool, false_from_ne_true, true≢false}
 use Rattle.labels.specs.Sets.{has, insert, full, Subset, card}
-use Rattle.labels.proofs.Member.{has_pos, has_none, members}
-use Rattle.labels.proofs.Card.{within_back}
+use Rattle.labels.proofs.Member.{members}
+use Rattle.labels.proofs.Parts.{in_full, none_subset, insert_both, insert_more}
 use Rattle.matroid_laws.specs.Matroids.{IsMatroid, Base, Rank}
 use Rattle.matroid_laws.specs.Greedy.{joined, extended, greedy, start}
+use Rattle.matroid_laws.proofs.Bases.{no_larger}
 
 -- of sets alone
-insert_grows : (k j e : ℕ) → 1 ≤ e → Subset k j → Subset (insert k e) (insert j e)
-insert_grows k j e l p f x = grind (arith, members)
-
-insert_more : (k e : ℕ) → 1 ≤ e → Subset k (insert k e)
-insert_more k e l f x = grind (arith, members)
-
 insert_has : (k e : ℕ) → 1 ≤ e → has (insert k e) e ≡ true
 insert_has k e l = grind (arith, members)
 
@@ -23,12 +18,6 @@ insert_out k e f l o = grind (arith, members)
 
 insert_old : (k s e f : ℕ) → 1 ≤ e → has s e ≡ true → (has k f ≡ true → has s f ≡ true) → has (insert k e) f ≡ true → has s f ≡ true
 insert_old k s e f l m p x = grind (arith, members)
-
-none_of : (s e : ℕ) → has 0 e ≡ true → has s e ≡ true
-none_of s e h = absurd (true≢false (sym h ∙ has_none e))
-
-in_full : (n e : ℕ) → 1 ≤ e → e ≤ n → has (full n) e ≡ true
-in_full n e l g = grind (arith, members)
 
 -- k is independent, holds k₀, has beyond k₀ only labels of s, and none of the labels of s among 1..m can be added
 record Kept (independent : ℕ → Bool) (s k₀ m k : ℕ) : Type 0 where
@@ -40,11 +29,7 @@ record Kept (independent : ℕ → Bool) (s k₀ m k : ℕ) : Type 0 where
 module _ (n : ℕ) (independent : ℕ → Bool) (M : IsMatroid n independent) where
   -- a set with a dependent part is dependent
   pub dependent_grows : (s t : ℕ) → Subset s t → independent s ≡ false → independent t ≡ false
-  dependent_grows s t p h = go (cases_Bool (independent t))
-    where
-      go : (independent t ≡ true) ⊎ (independent t ≡ false) → independent t ≡ false
-      go (inr o) = o
-      go (inl i) = absurd (true≢false (sym (M.hereditary s t p i) ∙ h))
+  dependent_grows s t p h = false_from_ne_true _ (λ i. both_ways _ h (M.hereditary s t p i))
 
   turn : (s k₀ m k : ℕ) → Kept independent s k₀ m k → Kept independent s k₀ (suc m) (joined independent s k (suc m))
   turn s k₀ m k P = go (has s (suc m)) refl (independent (insert k (suc m))) refl
@@ -59,7 +44,7 @@ module _ (n : ℕ) (independent : ℕ → Bool) (M : IsMatroid n independent) wh
       go : (x : Bool) → has s (suc m) ≡ x → (y : Bool) → independent (insert k (suc m)) ≡ y → Kept independent s k₀ (suc m) (cond (x && y) (insert k (suc m)) k)
       go true p true q = record {
         is_independent = q;
-        holds = λ e h. insert_more k (suc m) (omega arith) e (P.holds e h);
+        holds = insert_more k₀ k (suc m) (omega arith) P.holds;
         beyond = λ e h. old e h (cases_Bool (has k e));
         stuck = λ e l g i o. later e l g i o (ℕ_discrete e (suc m));
       }
@@ -71,7 +56,7 @@ module _ (n : ℕ) (independent : ℕ → Bool) (M : IsMatroid n independent) wh
           later : (e : ℕ) → 1 ≤ e → e ≤ suc m → has s e ≡ true → has (insert k (suc m)) e ≡ false → Dec (e ≡ suc m) → independent (insert (insert k (suc m)) e) ≡ false
           later e l g i o (yes z) = absurd (true≢false (sym (ap (has (insert k (suc m))) z ∙ insert_has k (suc m) (omega arith)) ∙ o))
           later e l g i o (no z) =
-              dependent_grows (insert k e) (insert (insert k (suc m)) e) (insert_grows k (insert k (suc m)) e l (insert_more k (suc m) (omega arith)))
+              dependent_grows (insert k e) (insert (insert k (suc m)) e) (insert_both k (insert k (suc m)) e l (insert_more k k (suc m) (omega arith) (λ f x. x)))
               (P.stuck e l (omega arith) i (insert_out k (suc m) e (omega arith) o))
       go true p false q = stays (λ e z i. ap (λ (x : ℕ). independent (insert k x)) z ∙ q)
       go false p y q = stays (λ e z i. absurd (true≢false (sym i ∙ ap (has s) z ∙ p)))
@@ -88,7 +73,7 @@ module _ (n : ℕ) (independent : ℕ → Bool) (M : IsMatroid n independent) wh
   greedy_within s e h = go ((keeps s 0 n M.empty).beyond e h)
     where
       go : (has 0 e ≡ true) ⊎ (has s e ≡ true) → has s e ≡ true
-      go (inl z) = none_of s e z
+      go (inl z) = none_subset s e z
       go (inr i) = i
 
   pub start_base : (offered : ℕ) → Base n independent (start n independent offered)
@@ -98,14 +83,8 @@ module _ (n : ℕ) (independent : ℕ → Bool) (M : IsMatroid n independent) wh
 
   -- an independent part of s is no larger than what greed keeps of s
   greedy_largest : (s t : ℕ) → Subset t s → independent t ≡ true → card t ≤ card (greedy n independent s)
-  greedy_largest s t p a = go (cases_lt (card (greedy n independent s)) (card t))
-    where
-      go : (card (greedy n independent s) < card t) ⊎ (card t ≤ card (greedy n independent s)) → card t ≤ card (greedy n independent s)
-      go (inr h) = h
-      go (inl h) =
-          let r = M.augments (greedy n independent s) t (greedy_independent s) a h in
-          let q = (keeps s 0 n M.empty).stuck r.0 (has_pos t r.0 r.1) (within_back n t r.0 (M.inside t a) r.1) (p r.0 r.1) r.2 in
-          absurd (true≢false (sym r.3 ∙ q))
+  greedy_largest s t p a =
+      no_larger n independent M (greedy n independent s) t (greedy_independent s) a (λ e l g m o. (keeps s 0 n M.empty).stuck e l g (p e m) o)
 
   pub greedy_ranks : (s : ℕ) → Rank independent s (card (greedy n independent s))
   greedy_ranks s = record {

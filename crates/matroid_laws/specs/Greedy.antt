@@ -3,9 +3,13 @@ use Rattle.std.specs.Prelude.{ℕ, zero, suc, Bool, cond, ◌&&◌}
 use Rattle.labels.specs.Sets.{has, insert, full, card}
 use Rattle.matroid_laws.specs.Matroids.{IsMatroid, Base, Rank}
 
--- the label e joins k where it is in s and the set stays independent
+-- the label e of s joins held, and an independent set comes of it
+abbrev pub joins : (ℕ → Bool) → ℕ → ℕ → ℕ → Bool
+joins independent s held e = has s e && independent (insert held e)
+
+-- the label e joins k where it can
 abbrev pub joined : (ℕ → Bool) → ℕ → ℕ → ℕ → ℕ
-joined independent s k e = cond (has s e && independent (insert k e)) (insert k e) k
+joined independent s k e = cond (joins independent s k e) (insert k e) k
 
 -- upwards through the labels of s among 1..n, from the kept set k
 unfoldable pub extended : (ℕ → Bool) → ℕ → ℕ → ℕ → ℕ

@@ -1,21 +1,17 @@
 -- The laws of a partition matroid.
 use Rattle.std.proofs.Common.{◌≡◌, ℕ, zero, suc, ◌+◌, ◌^◌, ◌<◌, ◌≤◌, true, false, not, ◌&&◌, eqb, ltb, leb, ◌⊎◌, ◌↔◌, sym, ap, ◌∙◌, subst, inl, inr, arith, pow_pos}
 use native.Mathlib.Decide.{ℕ_discrete}
-use lib.Bits.{bit_and, bit_or}
+use lib.Bits.{bit_or}
 use Rattle.std.proofs.lemmas.Bool.Decides.{nat_tests}
 use Rattle.std.proofs.lemmas.Bool.{cases_lt}
 use Rattle.labels.specs.Sets.{has, insert, Subset, card, passing}
 use Rattle.labels.proofs.Member.{has_pos, has_none, members}
-use Rattle.labels.proofs.Card.{ext, within, within_back, card_zero, card_subset, card_insert, card_or_and, more}
+use Rattle.labels.proofs.Card.{ext, within_back, card_zero, card_subset, card_insert, more}
 use Rattle.labels.proofs.Find.{no_label_tells, no_label_passes}
+use Rattle.labels.proofs.Parts.{card_apart, insert_below, subset_below}
 use Rattle.labels.proofs.Passing.{has_passing}
 use Rattle.matroid_laws.specs.Matroids.{IsMatroid}
 use Rattle.partition_laws.specs.Partition.{part_in, partition, WithinLimits}
-
-card_apart : (a b : ℕ) → ((e : ℕ) → has a e ≡ true → has b e ≡ false) → card (bit_or a b) ≡ card a + card b
-card_apart a b f =
-    let z : bit_and a b ≡ 0 = ext _ _ (λ e. let p = f e in grind (arith, members)) in
-    omega (arith, card_or_and a b, ap card z, card_zero)
 
 module _ (n : ℕ) (class_of : ℕ → ℕ) where
   -- the labels of s in none of the classes 1..j
@@ -47,22 +43,10 @@ module _ (n : ℕ) (class_of : ℕ → ℕ) where
 
   -- one label more, in class i or in another
   part_same : (s e i : ℕ) → 1 ≤ e → e ≤ n → class_of e ≡ i → part_in n class_of (insert s e) i ≡ insert (part_in n class_of s i) e
-  part_same s e i l g h = ext _ _ (λ f. let a = has_part (insert s e) i f in let b = has_part s i f in go f a b (ℕ_discrete f e))
-    where
-      go : (f : ℕ) → has (part_in n class_of (insert s e) i) f ≡ ((leb 1 f && leb f n) && (has (insert s e) f && eqb (class_of f) i))
-          → has (part_in n class_of s i) f ≡ ((leb 1 f && leb f n) && (has s f && eqb (class_of f) i)) → Dec (f ≡ e)
-          → has (part_in n class_of (insert s e) i) f ≡ has (insert (part_in n class_of s i) e) f
-      go f a b (yes z) = let c = ap class_of z in grind (arith, members)
-      go f a b (no z) = grind (arith, members)
+  part_same s e i l g h = ext _ _ (λ f. let a = has_part (insert s e) i f in let b = has_part s i f in grind (arith, members))
 
   part_other : (s e i : ℕ) → 1 ≤ e → (class_of e ≡ i → ⊥) → part_in n class_of (insert s e) i ≡ part_in n class_of s i
-  part_other s e i l h = ext _ _ (λ f. let a = has_part (insert s e) i f in let b = has_part s i f in go f a b (ℕ_discrete f e))
-    where
-      go : (f : ℕ) → has (part_in n class_of (insert s e) i) f ≡ ((leb 1 f && leb f n) && (has (insert s e) f && eqb (class_of f) i))
-          → has (part_in n class_of s i) f ≡ ((leb 1 f && leb f n) && (has s f && eqb (class_of f) i)) → Dec (f ≡ e)
-          → has (part_in n class_of (insert s e) i) f ≡ has (part_in n class_of s i) f
-      go f a b (yes z) = let c = ap class_of z in grind (arith, members)
-      go f a b (no z) = grind (arith, members)
+  part_other s e i l h = ext _ _ (λ f. let a = has_part (insert s e) i f in let b = has_part s i f in grind (arith, members))
 
   new_in : (s t i e : ℕ) → has (part_in n class_of t i) e ≡ true → has (part_in n class_of s i) e ≡ false
       → (1 ≤ e) × (e ≤ n) × (class_of e ≡ i) × (has t e ≡ true) × (has s e ≡ false)
@@ -103,9 +87,6 @@ module _ (n : ℕ) (class_of : ℕ → ℕ) where
         → (e : ℕ) × (has t e ≡ true) × (has s e ≡ false) × WithinLimits n m class_of most (insert s e)
     grow s t S T h = go (more_somewhere s t S.inside T.inside h m)
       where
-        insert_below : (e : ℕ) → 1 ≤ e → e ≤ n → insert s e < 2 ^ n
-        insert_below e l g = within n (insert s e) (λ f i. let p = within_back n s f S.inside in grind (arith, members))
-
         go : ((i : ℕ) × (1 ≤ i) × (i ≤ m) × (card (part_in n class_of s i) < card (part_in n class_of t i))) ⊎ (card (elsewhere s m) < card (elsewhere t m))
             → (e : ℕ) × (has t e ≡ true) × (has s e ≡ false) × WithinLimits n m class_of most (insert s e)
         go (inl (i, l, g, k)) = found (more (part_in n class_of s i) (part_in n class_of t i) k)
@@ -117,7 +98,7 @@ module _ (n : ℕ) (class_of : ℕ → ℕ) where
               r.3,
               r.4,
               record {
-                inside = insert_below e r.0 r.1;
+                inside = insert_below n s e S.inside r.0 r.1;
                 few = λ j a b. limits j a b (ℕ_discrete (class_of e) j);
               },
             )
@@ -136,7 +117,7 @@ module _ (n : ℕ) (class_of : ℕ → ℕ) where
               r.3,
               r.4,
               record {
-                inside = insert_below e r.0 r.1;
+                inside = insert_below n s e S.inside r.0 r.1;
                 few = λ j a b. omega (arith, ap card (part_other s e j r.0 (r.2 j a b)), S.few j a b);
               },
             )
@@ -149,7 +130,7 @@ partition_is n m class_of most = record {
   inside = λ s h. (means n class_of m most s h).inside;
   empty = meant n class_of m most 0 (record { inside = pow_pos n; few = λ i l g. omega (arith, card_zero, ap card (part_none n class_of i)) });
   hereditary = λ s t p h. let T = means n class_of m most t h in meant n class_of m most s (record {
-    inside = within n s (λ e i. within_back n t e T.inside (p e i));
+    inside = subset_below n s t p T.inside;
     few = λ i l g. omega (arith, card_subset _ _ (part_subset n class_of s t i p), T.few i l g);
   });
   augments = λ s t a b h.

@@ -1,9 +1,10 @@
 -- The law of the check: it accepts exactly the written forms of lawful sheets, each as the sheet that was written.
 use Rattle.std.proofs.Common.{◌≡◌, ℕ, ◌+◌, ◌≤◌, Bool, true, false, cond, List, [], ◌∷◌, ◌++◌, map, length, Some, None, Ok, Err, decimal, Option, Result, sym, refl, ap, ◌∙◌, subst, inl, inr, arith, length-append}
 use Rattle.std.specs.List.{AllByRecursion}
-use Rattle.std.proofs.lemmas.Bool.{true≢false}
+use Rattle.std.proofs.lemmas.Bool.{both_ways}
 use Rattle.std.proofs.lemmas.Bool.Decides.{nat_tests}
 use Rattle.std.proofs.lemmas.List.{append-nil, append_assoc, length_push}
+use Rattle.std.proofs.lemmas.Option.{none-some}
 use Rattle.std.proofs.ByRecursion.{All-push, All-map, All-weaker}
 use Rattle.std.proofs.lemmas.Fmt.{decimal_nonempty}
 use Rattle.labels.specs.Sets.{limit}
@@ -11,7 +12,7 @@ use Rattle.survey_laws.specs.Sheets.{SurveyRow, Sheet, SamePair, Once, LawfulRow
 use Rattle.survey_laws.specs.Check.{Wrong, wrong_form, out_of_range, accepted, refused, number_in, is_point, lines, next_row, follow, read_rows, counted, first_line, headed, read_lines, check}
 use Rattle.survey_laws.specs.Laws.{Writes, AcceptsExactly, WrongCount}
 use Rattle.survey_laws.proofs.Pieces.{Line, Again, ended_lines, lines_ended, lines_unended}
-use Rattle.survey_laws.proofs.Numbers.{none_some, number_in_is, number_in_decimal, free_decimal}
+use Rattle.survey_laws.proofs.Numbers.{number_in_is, number_in_decimal, free_decimal}
 use Rattle.survey_laws.proofs.Rows.{err_ok, Unmet, Fitting, numbered, row_line, next_row_is, next_row_written}
 
 abbrev pub sheet : ℕ → List SurveyRow → Sheet
@@ -89,7 +90,7 @@ whole_fits p done (r ∷ rs) W = (
   whole_fits p (done ++ r ∷ []) rs (subst (Whole p) (sym (append_assoc done (r ∷ []) rs)) W),
 )
 
-pub fits_whole : (p : ℕ) (done rs : List SurveyRow) → Whole p done → Fit p done rs → Whole p (done ++ rs)
+fits_whole : (p : ℕ) (done rs : List SurveyRow) → Whole p done → Fit p done rs → Whole p (done ++ rs)
 fits_whole p done [] W F = subst (Whole p) (sym (append-nil done)) W
 fits_whole p done (r ∷ rs) W F =
     let L = F.0 in
@@ -102,10 +103,12 @@ fits_whole p done (r ∷ rs) W F =
     })
     F.1)
 
--- ---- the law
+pub lawful_sheet : (p : ℕ) (rs : List SurveyRow) → 1 ≤ p → p ≤ most_points → Fit p [] rs → Lawful (sheet p rs)
+lawful_sheet p rs l h F =
+    let W = fits_whole p [] rs (record { few = omega arith; each = tt; once = tt }) F in
+    record { some_points = l; few_points = h; few_rows = W.few; each_row = W.each; once = W.once }
 
-outside : (n : ℕ) → is_point most_points n ≡ false → 1 ≤ n → n ≤ most_points → ⊥
-outside n h a b = let k : is_point most_points n ≡ true = grind (arith, nat_tests) in true≢false (sym k ∙ h)
+-- ---- the law
 
 pub first_line_is : (l : List ℕ) (p : ℕ) → first_line l ≡ Ok p → (l ≡ decimal p) × (1 ≤ p) × (p ≤ most_points)
 first_line_is l p e = go (number_in l) refl e
@@ -127,10 +130,10 @@ first_line_wrong l w e = go (number_in l) refl e
     ranged n i false h e =
         let v : out_of_range ≡ w = cc in
         let k = number_in_is l n i in
-        subst (WrongCount l) v (n, k.0, k.1, λ r. let a = r.0 in let b = r.1 in absurd (outside n h a b))
+        subst (WrongCount l) v (n, k.0, k.1, λ r. let a = r.0 in let b = r.1 in let k : is_point most_points n ≡ true = grind (arith, nat_tests) in both_ways _ h k)
 
     go : (o : Option ℕ) → number_in l ≡ o → counted o ≡ Err w → WrongCount l w
-    go None i e = let v : wrong_form ≡ w = cc in subst (WrongCount l) v (λ p h q. none_some (sym i ∙ ap number_in q ∙ number_in_decimal p h))
+    go None i e = let v : wrong_form ≡ w = cc in subst (WrongCount l) v (λ p h q. none-some _ (sym i ∙ ap number_in q ∙ number_in_decimal p h))
     go (Some n) i e = ranged n i (is_point most_points n) refl e
 
 first_line_written : (p : ℕ) → 1 ≤ p → p ≤ most_points → first_line (decimal p) ≡ Ok p
@@ -147,10 +150,8 @@ accepts text s e = go (lines text) (ended_lines text) e
     with-points : (p : ℕ) (l : List ℕ) (ls : List (List ℕ)) → first_line l ≡ Ok p → Again (l ∷ ls) text → read_rows p [] ls ≡ accepted s → Lawful s × Writes text s
     with-points p l ls f A e =
         let k = first_line_is l p f in
-        let R = read_rows_is p [] ls s e in
-        let W = fits_whole p [] R.rows (record { few = omega arith; each = tt; once = tt }) R.fit in
-        let L : Lawful (sheet p R.rows) = record { some_points = k.1; few_points = k.2; few_rows = W.few; each_row = W.each; once = W.once } in (
-          subst Lawful R.whole L,
+        let R = read_rows_is p [] ls s e in (
+          subst Lawful R.whole (lawful_sheet p R.rows k.1 k.2 R.fit),
           turned (l ∷ ls)
               (ap (λ x. x ∷ ls) k.0 ∙ ap (λ xs. decimal p ∷ xs) R.written_so ∙ ap (λ (t : Sheet). decimal t.points ∷ map row_written t.rows) R.whole) A,
         )

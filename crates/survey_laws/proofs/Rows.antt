@@ -4,13 +4,14 @@ use Rattle.std.specs.Fmt.{signed_decimal}
 use Rattle.std.specs.List.{AllByRecursion}
 use Rattle.std.proofs.lemmas.Bool.Decides.{nat_tests}
 use Rattle.std.proofs.lemmas.Bool.{lt-leb, leb-true, leb-false, eqb-true, eqb-false, ne_eqb, true≢false}
+use Rattle.std.proofs.lemmas.Option.{none-some}
 use Rattle.std.proofs.ByRecursion.{All-append}
 use Rattle.labels.specs.Sets.{limit}
 use Rattle.survey_laws.specs.Sheets.{SurveyRow, Numbered, InRange, SamePair, Met, LawfulRow, most_points, comma, line_feed, row_written}
 use Rattle.survey_laws.specs.Check.{Wrong, wrong_form, same_point, out_of_range, repeated_pair, too_many_rows, number_in, shift_in, until, before, after, row_from, row_in, in_range, same_pair, met, judged, formed, next_row}
 use Rattle.survey_laws.specs.Laws.{WrongRow}
 use Rattle.survey_laws.proofs.Pieces.{Line, before_front, after_front, cut_whole}
-use Rattle.survey_laws.proofs.Numbers.{none_some, number_in_is, number_in_decimal, number_some, shift_in_is, shift_in_signed, shift_some, free_decimal, free_signed}
+use Rattle.survey_laws.proofs.Numbers.{number_in_is, number_in_decimal, number_some, shift_in_is, shift_in_signed, shift_some, free_decimal, free_signed}
 
 -- ---- the form
 
@@ -30,10 +31,10 @@ row_in_is s r e =
     go : (p : Option ℕ) → number_in (before comma s) ≡ p → (q : Option ℕ) → number_in (before comma (after comma s)) ≡ q
         → (x : Option ℤ) → shift_in (before comma (after comma (after comma s))) ≡ x → (y : Option ℤ) → shift_in (after comma (after comma (after comma s))) ≡ y
         → row_from p q x y ≡ Some r → (s ≡ row_written r) × Numbered r
-    go None e₁ q e₂ x e₃ y e₄ e = absurd (none_some e)
-    go (Some a) e₁ None e₂ x e₃ y e₄ e = absurd (none_some e)
-    go (Some a) e₁ (Some b) e₂ None e₃ y e₄ e = absurd (none_some e)
-    go (Some a) e₁ (Some b) e₂ (Some v) e₃ None e₄ e = absurd (none_some e)
+    go None e₁ q e₂ x e₃ y e₄ e = absurd (none-some _ e)
+    go (Some a) e₁ None e₂ x e₃ y e₄ e = absurd (none-some _ e)
+    go (Some a) e₁ (Some b) e₂ None e₃ y e₄ e = absurd (none-some _ e)
+    go (Some a) e₁ (Some b) e₂ (Some v) e₃ None e₄ e = absurd (none-some _ e)
     go (Some a) e₁ (Some b) e₂ (Some v) e₃ (Some w) e₄ e =
         let s₁ = after comma s in
         let s₂ = after comma s₁ in
@@ -197,9 +198,6 @@ next_row_written p done r h F =
 
 -- ---- what is wrong with a line
 
-ok_err : {X Y : Type 0} {x : X} {y : Y} → Ok x ≡ Err y → ⊥
-ok_err e = err_ok (sym e)
-
 met_has : (qs : List SurveyRow) (r : SurveyRow) → met qs r ≡ true → Met qs r
 met_has [] r e = absurd (true≢false (sym e))
 met_has (q ∷ qs) r e = go (same_pair q r) refl e (met_has qs r)
@@ -226,11 +224,11 @@ next_row_wrong p done l w e = go (leb limit (length done)) refl (row_in l) refl 
         let v : repeated_pair ≡ w = cc in
         let f = row_in_is l r i in
         subst (WrongRow p done l) v (m, (r, f.0, f.1, (record { ranges = in_range_tells p r h; apart = eqb-false r.a r.b j }, met_has done r k)))
-    after-form r m i true h false j false k e = absurd (ok_err e)
+    after-form r m i true h false j false k e = absurd (err_ok (sym e))
 
     go : (x : Bool) → leb limit (length done) ≡ x → (o : Option SurveyRow) → row_in l ≡ o → cond x (Err too_many_rows) (formed o (judged p done)) ≡ Err w → WrongRow p done l w
     go true h o i e = let v : too_many_rows ≡ w = cc in subst (WrongRow p done l) v (leb-true limit (length done) h)
     go false h None i e =
         let v : wrong_form ≡ w = cc in
-        subst (WrongRow p done l) v (leb-false limit (length done) h, λ r N q. none_some (sym i ∙ ap row_in q ∙ row_in_written r N))
+        subst (WrongRow p done l) v (leb-false limit (length done) h, λ r N q. none-some _ (sym i ∙ ap row_in q ∙ row_in_written r N))
     go false h (Some r) i e = after-form r (leb-false limit (length done) h) i (in_range p r) refl (eqb r.a r.b) refl (met done r) refl e

@@ -15,11 +15,8 @@ top_pos a b d t = go d t.apart
     go zero h = let p = has_zero a in let q = has_zero b in absurd (grind arith)
     go (suc d) h = omega arith
 
-pub top_not_self : (a d : ℕ) → TopDifference a a d → ⊥
-top_not_self a d t = grind arith
-
 pub not_ahead : (t a : ℕ) → Ahead t a t → ⊥
-not_ahead t a (d, p, h) = top_not_self t d p
+not_ahead t a (d, p, h) = let q = p.apart in grind arith
 
 -- the highest label of difference from t, when e and f < e of t change places
 stays_over : (t e f b d : ℕ) → 1 ≤ f → f < e → e < d → TopDifference b t d → TopDifference b (swap t e f) d
@@ -93,10 +90,7 @@ swap_exchanges t e f l g h = go (has t e) refl
       others = λ x m k. grind (arith, members);
     }
 
--- T - d + f and T + d - f
-pub swap_out : (t d f : ℕ) → 1 ≤ f → has t d ≡ true → has t f ≡ false → insert (remove t d) f ≡ swap t d f
-swap_out t d f l i o = ext _ _ (λ x. grind (arith, members))
-
+-- T + d - f
 pub swap_in : (t d f : ℕ) → 1 ≤ d → has t d ≡ false → has t f ≡ true → remove (insert t d) f ≡ swap t d f
 swap_in t d f l i o = ext _ _ (λ x. grind (arith, members))
 

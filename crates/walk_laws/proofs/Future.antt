@@ -1,11 +1,13 @@
 -- What further advances hand out.
-use Rattle.std.proofs.Common.{◌≡◌, ℕ, zero, suc, ◌<◌, ◌≤◌, Bool, true, false, not, ◌⊎◌, ◌↔◌, List, [], ◌∷◌, Some, None, Option, sym, refl, ap, ◌∙◌, subst, subst₂, inl, inr, arith}
+use Rattle.std.proofs.Common.{◌≡◌, ℕ, zero, suc, ◌≤◌, not, ◌⊎◌, ◌↔◌, List, [], ◌∷◌, Some, None, Option, sym, refl, ap, ◌∙◌, subst, subst₂, inl, inr, arith}
+use mathlib.Core.Bool.{not-not}
+use Rattle.std.proofs.lemmas.Option.{none-some, same_Some}
 use Rattle.labels.specs.Sets.{has}
 use Rattle.labels.specs.Families.{In, Once}
 use Rattle.labels.proofs.Order.{reopened_less}
 use Rattle.matroid_laws.specs.Matroids.{Base}
 use Rattle.walk_laws.specs.Law.{Ahead, Leads, Linked, ToCome}
-use Rattle.walk_laws.proofs.Views.{Moved, Still, candidate_tells, none_ahead, none_below, step_view}
+use Rattle.walk_laws.proofs.Views.{Candidate, Moved, Seen, Still, candidate_tells, none_ahead, none_below, step_view}
 use Rattle.walk_laws.specs.Lives.{Runs, ends, goes}
 use Rattle.walk_laws.specs.Settings.{Setting, Sound, candidates}
 use Rattle.walk_laws.specs.Steps.{State, after, exchange_at, step}
@@ -13,14 +15,7 @@ use Rattle.walk_laws.proofs.Ahead.{ahead_back, ahead_on, not_ahead, swap_exchang
 use Rattle.walk_laws.specs.declared.Exchange.{Exchange}
 
 pub no_both : {A B : Type 0} (a : A) (s t : B) → ◌≡◌ {A = Option A × B} (None, s) (Some a, t) → ⊥
-no_both {A} {B} a s t p = let q : ◌≡◌ {A = Option A} None (Some a) = ap (λ (x : Option A × B). x.0) p in let z : ◌≡◌ {A = ℕ} 0 1 = cc in omega arith
-
-same_some : {A : Type 0} (a b : A) → ◌≡◌ {A = Option A} (Some a) (Some b) → a ≡ b
-same_some a b p = cc
-
-twice : (b : Bool) → b ≡ not (not b)
-twice true = refl
-twice false = refl
+no_both {A} {B} a s t p = none-some a (ap (λ (x : Option A × B). x.0) p)
 
 module _ {R V : Type 0} (w : Setting R V) where
   -- the state after the advance at e
@@ -29,8 +24,12 @@ module _ {R V : Type 0} (w : Setting R V) where
 
   -- what the exchange at e is
   pub chosen_tells : (s : State R V) (e : ℕ) → Moved w s e
-      → (1 ≤ w.choice s.tie e (candidates w s.present e)) × (w.choice s.tie e (candidates w s.present e) < e) × (has s.present e ≡ not (has s.present (w.choice s.tie e (candidates w s.present e)))) × Base w.n w.independent (moved s e).present
+      → Candidate w s.present e (w.choice s.tie e (candidates w s.present e))
   chosen_tells s e m = candidate_tells w s.present e _ m.chosen
+
+  -- the advance from s to t by x moves at a label
+  abbrev pub Moves : State R V → State R V → Exchange → Type 0
+  Moves s t x = (e : ℕ) × Moved w s e × (t ≡ moved s e) × (x ≡ exchange_at w s e (candidates w s.present e))
 
   pub record Future (s : State R V) (F : List ℕ) : Type 0 where
     pub runs : Runs w s F
@@ -50,8 +49,7 @@ module _ {R V : Type 0} (w : Setting R V) where
       linked = (swap_exchanges s.present e _ c.0 c.1 c.2, f.linked);
     }
       where
-        c : (1 ≤ w.choice s.tie e (candidates w s.present e)) × (w.choice s.tie e (candidates w s.present e) < e)
-            × (has s.present e ≡ not (has s.present (w.choice s.tie e (candidates w s.present e)))) × Base w.n w.independent (moved s e).present
+        c : Candidate w s.present e (w.choice s.tie e (candidates w s.present e))
         c = chosen_tells s e m
 
         there : (b : ℕ) → (b ≡ (moved s e).present) ⊎ In b F → ToCome w s b
@@ -68,12 +66,12 @@ module _ {R V : Type 0} (w : Setting R V) where
     future_within : (k : ℕ) (s : State R V) → s.active ≤ k → Base w.n w.independent s.present → (F : List ℕ) × Future s F
     future_within zero s h T = go (step_view w W s)
       where
-        go : ((step w s ≡ (None, s)) × Still w s (λ d. (1 ≤ d) × (d ≤ w.n))) ⊎ ((e : ℕ) × Moved w s e) → (F : List ℕ) × Future s F
+        go : Seen w s → (F : List ℕ) × Future s F
         go (inl (q, still)) = ([], nothing s T q still)
         go (inr (e, m)) = absurd (omega (arith, reopened_less s.active e m.active))
     future_within (suc k) s h T = go (step_view w W s) (future_within k)
       where
-        go : ((step w s ≡ (None, s)) × Still w s (λ d. (1 ≤ d) × (d ≤ w.n))) ⊎ ((e : ℕ) × Moved w s e)
+        go : Seen w s
             → ((s' : State R V) → s'.active ≤ k → Base w.n w.independent s'.present → (F : List ℕ) × Future s' F) → (F : List ℕ) × Future s F
         go (inl (q, still)) ih = ([], nothing s T q still)
         go (inr (e, m)) ih =
@@ -88,35 +86,35 @@ module _ {R V : Type 0} (w : Setting R V) where
     pub stop_same : (s t : State R V) → step w s ≡ (None, t) → t ≡ s
     stop_same s t q = go (step_view w W s)
       where
-        go : ((step w s ≡ (None, s)) × Still w s (λ d. (1 ≤ d) × (d ≤ w.n))) ⊎ ((e : ℕ) × Moved w s e) → t ≡ s
+        go : Seen w s → t ≡ s
         go (inl (p, still)) = ap (λ (x : Option Exchange × State R V). x.1) (sym q ∙ p)
         go (inr (e, m)) = absurd (no_both _ _ _ (sym q ∙ m.does))
 
-    pub move_is : (s t : State R V) (x : Exchange) → step w s ≡ (Some x, t) → (e : ℕ) × Moved w s e × (t ≡ moved s e) × (x ≡ exchange_at w s e (candidates w s.present e))
+    pub move_is : (s t : State R V) (x : Exchange) → step w s ≡ (Some x, t) → Moves s t x
     move_is s t x q = go (step_view w W s)
       where
-        go : ((step w s ≡ (None, s)) × Still w s (λ d. (1 ≤ d) × (d ≤ w.n))) ⊎ ((e : ℕ) × Moved w s e)
-            → (e : ℕ) × Moved w s e × (t ≡ moved s e) × (x ≡ exchange_at w s e (candidates w s.present e))
+        go : Seen w s
+            → Moves s t x
         go (inl (p, still)) = absurd (no_both _ _ _ (sym p ∙ q))
         go (inr (e, m)) = (
           e,
           m,
           ap (λ (x : Option Exchange × State R V). x.1) (sym q ∙ m.does),
-          same_some _ _ (ap (λ (x : Option Exchange × State R V). x.0) (sym q ∙ m.does)),
+          same_Some _ _ (ap (λ (x : Option Exchange × State R V). x.0) (sym q ∙ m.does)),
         )
 
     -- an exchange leads from the set before it to the set after it
     pub leads : (s t : State R V) (x : Exchange) → step w s ≡ (Some x, t) → Leads s.present x t.present
     leads s t x q = go (move_is s t x q)
       where
-        go : (e : ℕ) × Moved w s e × (t ≡ moved s e) × (x ≡ exchange_at w s e (candidates w s.present e)) → Leads s.present x t.present
+        go : Moves s t x → Leads s.present x t.present
         go (e, m, y, z) =
             let c = chosen_tells s e m in
             subst₂ (λ (x : Exchange) (t : State R V). Leads s.present x t.present) (sym z) (sym y) (record {
               positive = c.0;
               lower = c.1;
-              high_was = twice (has s.present e);
-              low_was = sym (ap not c.2 ∙ sym (twice _));
+              high_was = sym (not-not (has s.present e));
+              low_was = sym (ap not c.2 ∙ not-not _);
               made = refl;
             })
 

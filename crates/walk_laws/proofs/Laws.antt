@@ -1,32 +1,31 @@
 -- The law of every life.
-use Rattle.std.proofs.Common.{◌≡◌, ℕ, zero, suc, ◌-◌, ◌^◌, ◌<◌, ◌≤◌, Bool, true, false, cond, not, ◌&&◌, eqb, ◌⊎◌, List, [], ◌∷◌, ◌++◌, length, take, Some, None, sym, refl, ap, ◌∙◌, subst, inl, inr, append-nil, arith}
+use Rattle.std.proofs.Common.{◌≡◌, ℕ, zero, suc, ◌-◌, ◌^◌, ◌<◌, ◌≤◌, Bool, true, false, cond, not, ◌&&◌, eqb, ◌⊎◌, List, [], ◌∷◌, ◌++◌, length, Some, None, sym, refl, ap, ◌∙◌, subst, inl, inr, append-nil, arith}
 use Rattle.std.proofs.lemmas.Bool.Decides.{nat_tests}
-use Rattle.std.proofs.lemmas.Bool.{cases_eq, cases_Bool, true≢false}
+use Rattle.std.proofs.lemmas.Bool.{cases_eq, false_from_ne_true, true≢false}
+use Rattle.std.proofs.lemmas.List.{take_all}
 use Rattle.labels.specs.Sets.{has, swap, TopDifference, first_passing, passing}
 use Rattle.labels.specs.Families.{In, Once}
-use Rattle.labels.proofs.Member.{has_full, has_none}
+use Rattle.labels.proofs.Member.{has_none}
 use Rattle.labels.proofs.Card.{ext}
 use Rattle.labels.proofs.Order.{top, top_one}
+use Rattle.labels.proofs.Parts.{in_full}
 use Rattle.matroid_laws.specs.Matroids.{Base, is_base, bases}
 use Rattle.matroid_laws.proofs.Tests.{base_tells, bases_have, bases_are, bases_once}
 use Rattle.walk_laws.specs.Law.{Always, Listed, Reordered, Stepwise, Whole}
 use Rattle.walk_laws.proofs.Future.{Future, chosen_tells, future, leads, moved, runs_off, runs_on, runs_one, stop_same}
 use Rattle.walk_laws.proofs.Paths.{Held, held, path_life}
 use Rattle.walk_laws.specs.Lives.{Life, sets_of}
-use Rattle.walk_laws.proofs.Views.{Moved, Still, fits_tells, reach_within, step_view}
+use Rattle.walk_laws.proofs.Views.{Seen, fits_tells, reach_within, step_view}
 use Rattle.walk_laws.specs.Settings.{Setting, Sound, candidates, fits}
 use Rattle.walk_laws.specs.Steps.{State, after, begin_at, exchange_at, offers, several, step, step_at}
 use Rattle.walk_laws.specs.AlgorithmG.{among, g_of, g_of_step, g_step, g_step_at, unvisited}
 use Rattle.walk_laws.proofs.Lists.{among_passes, among_tells, in_either, in_left, in_right, once_apart, once_left, reordered_length, same_members, stepwise_left}
-use Rattle.walk_laws.proofs.Ahead.{back_at, top_not_self, top_pos}
+use Rattle.walk_laws.proofs.Ahead.{back_at, not_ahead, top_pos}
 use Rattle.labels.proofs.Passing.{first_passing_same, has_passing, passing_same}
 use Rattle.walk_laws.proofs.Values.{total_reordered}
 use Rattle.walk_laws.proofs.Several.{listing}
 
 -- of sets, lists and tests alone
-all_open : (n d : ℕ) → 1 ≤ d → d ≤ n → has (2 ^ n - 1) d ≡ true
-all_open n d l g = has_full n d ∙ grind (arith, nat_tests)
-
 keeps : (x y : Bool) → (x ≡ true → y ≡ false) → (x && not y) ≡ x
 keeps true y h = ap not (h refl)
 keeps false y h = refl
@@ -35,27 +34,14 @@ drops : (x y : Bool) → (x ≡ true → y ≡ true) → (x && not y) ≡ false
 drops true y h = ap not (h refl)
 drops false y h = refl
 
-take_all : (k : ℕ) (l : List ℕ) → length l ≤ k → take k l ≡ l
-take_all zero [] h = refl
-take_all zero (x ∷ l) h = absurd (omega arith)
-take_all (suc k) [] h = refl
-take_all (suc k) (x ∷ l) h = ap (λ (m : List ℕ). x ∷ m) (take_all k l (omega arith))
-
 passing_none : (t : ℕ → Bool) (m : ℕ) → ((f : ℕ) → 1 ≤ f → f ≤ m → t f ≡ false) → passing t m ≡ 0
 passing_none t m h = ext _ _ (λ f. let p = has_passing t m f in let q = has_none f in let r = h f in grind (arith, nat_tests))
-
-not_in : (x : ℕ) (xs : List ℕ) → (In x xs → ⊥) → among x xs ≡ false
-not_in x xs n = go (cases_Bool (among x xs))
-  where
-    go : (among x xs ≡ true) ⊎ (among x xs ≡ false) → among x xs ≡ false
-    go (inl p) = absurd (n (among_tells x xs p))
-    go (inr p) = p
 
 module _ {R V : Type 0} (w : Setting R V) (W : Sound w) where
   -- F₀: the sets that the whole walk hands out after t
   module _ (t a : ℕ) (r : R) (T : Base w.n w.independent t) (F₀ : List ℕ) (whole : Future w (begin_at w t a r) F₀) where
     whole_once : Once (t ∷ F₀)
-    whole_once = (λ i. let c = ((whole.exact t).0 i).1 in top_not_self t c.0 c.1, whole.once)
+    whole_once = (λ i. not_ahead t _ ((whole.exact t).0 i).1, whole.once)
 
     whole_based : (b : ℕ) → (b ≡ t) ⊎ In b F₀ → Base w.n w.independent b
     whole_based b (inl q) = subst (Base w.n w.independent) (sym q) T
@@ -108,7 +94,7 @@ module _ {R V : Type 0} (w : Setting R V) (W : Sound w) where
             go (inl q) = inl q
             go (inr n) =
                 let d = top b t n in
-                inr ((whole.exact b).1 (B, (d.0, d.1, ap (λ (x : ℕ). has x d.0) wide ∙ all_open w.n d.0 (top_pos b t d.0 d.1) (reach_within w W b t d.0 B T d.1))))
+                inr ((whole.exact b).1 (B, (d.0, d.1, ap (λ (x : ℕ). has x d.0) wide ∙ in_full w.n d.0 (top_pos b t d.0 d.1) (reach_within w W b t d.0 B T d.1))))
 
         here_or_ahead : (b : ℕ) → Base w.n w.independent b → In b H ⊎ In b F
         here_or_ahead b B = in_either b H F (subst (In b) (sym split) (all_in b B))
@@ -140,7 +126,7 @@ module _ {R V : Type 0} (w : Setting R V) (W : Sound w) where
         not_done : ((b : ℕ) → Base w.n w.independent b → In b H) → step w s ≡ (None, s)
         not_done all = go (step_view w W s)
           where
-            go : ((step w s ≡ (None, s)) × Still w s (λ d. (1 ≤ d) × (d ≤ w.n))) ⊎ ((e : ℕ) × Moved w s e) → step w s ≡ (None, s)
+            go : Seen w s → step w s ≡ (None, s)
             go (inl (q, still)) = q
             go (inr (e, m)) =
                 let c = runs_on w s (moved w s e) _ F m.does ahead.runs in
@@ -162,7 +148,7 @@ module _ {R V : Type 0} (w : Setting R V) (W : Sound w) where
         closed_in e f l g c p = among_passes _ H (visited_in (swap s.present e f) (fits_base e f p) (inr (e, back_at s.present e f l g, c)))
 
         open_out : (e f : ℕ) → 1 ≤ f → f < e → has s.active e ≡ true → fits w s.present e f ≡ true → among (swap s.present e f) H ≡ false
-        open_out e f l g o p = not_in _ H (λ i. once_apart _ H F split_once i ((ahead.exact _).1 (fits_base e f p, (e, back_at s.present e f l g, o))))
+        open_out e f l g o p = false_from_ne_true (among (swap s.present e f) H) (λ q. once_apart _ H F split_once (among_tells _ H q) ((ahead.exact _).1 (fits_base e f p, (e, back_at s.present e f l g, o))))
 
         same_offer : (e : ℕ) → 1 ≤ e → unvisited w H s.present e ≡ offers w s e
         unfolding unvisited candidates

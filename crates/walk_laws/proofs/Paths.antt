@@ -5,8 +5,8 @@ use Rattle.matroid_laws.specs.Matroids.{Base}
 use Rattle.walk_laws.specs.Lives.{Call, Life, Runs, advances, begins, calls, lists, looks, sets_of}
 use Rattle.walk_laws.proofs.Views.{Moved}
 use Rattle.walk_laws.specs.Settings.{Setting, Sound, candidates, total_of, value_of}
-use Rattle.walk_laws.specs.Steps.{Several, State, begin_at, exchange_at, go_on, several, step}
-use Rattle.walk_laws.proofs.Future.{chosen_tells, move_is, moved, runs_on, stop_same}
+use Rattle.walk_laws.specs.Steps.{Several, State, begin_at, go_on, several, step}
+use Rattle.walk_laws.proofs.Future.{Moves, chosen_tells, move_is, moved, runs_on, stop_same}
 use Rattle.walk_laws.proofs.Values.{total_last, total_single, value_exchange}
 use Rattle.walk_laws.specs.declared.Exchange.{Exchange}
 
@@ -87,5 +87,5 @@ module _ {R V : Type 0} (w : Setting R V) where
     }
     held t a r F T small f (onto {H = H} {s = s} {s' = s'} {x = x} p q) = go (move_is w W s s' x q) (held t a r F T small f p)
       where
-        go : (e : ℕ) × Moved w s e × (s' ≡ moved w s e) × (x ≡ exchange_at w s e (candidates w s.present e)) → Held (t ∷ F) H s → Held (t ∷ F) (H ++ (s'.present ∷ [])) s'
+        go : Moves w s s' x → Held (t ∷ F) H s → Held (t ∷ F) (H ++ (s'.present ∷ [])) s'
         go (e, m, z, y) h = subst (λ (u : State R V). Held (t ∷ F) (H ++ (u.present ∷ [])) u) (sym z) (held_moved (t ∷ F) H s e m h)

@@ -5,6 +5,7 @@ use Rattle.std.proofs.lemmas.Bool.{true≢false}
 use Rattle.labels.specs.Sets.{has, differs, insert, remove, swap, TopDifference, first_passing, passing}
 use Rattle.labels.proofs.Member.{has_none, has_pos}
 use Rattle.labels.proofs.Card.{some, within_back}
+use Rattle.labels.proofs.Swap.{swap_is}
 use Rattle.matroid_laws.specs.Matroids.{Base, is_base}
 use Rattle.matroid_laws.proofs.Bases.{exchange, exchange_back}
 use Rattle.matroid_laws.proofs.Tests.{base_passes, base_tells}
@@ -12,7 +13,7 @@ use Rattle.walk_laws.specs.Law.{Ahead}
 use Rattle.labels.proofs.Passing.{FirstPassing, first_passing_is, has_passing}
 use Rattle.walk_laws.specs.Settings.{Setting, Sound, candidates, fits}
 use Rattle.walk_laws.specs.Steps.{State, after, exchange_at, offers, step, step_at}
-use Rattle.walk_laws.proofs.Ahead.{below_top, swap_in, swap_out, top_pos}
+use Rattle.walk_laws.proofs.Ahead.{below_top, swap_in, top_pos}
 
 -- tests of numbers and cond, with nothing in reach
 offered : (b : Bool) (c : ℕ) → not (eqb (cond b c 0) 0) ≡ true → (b ≡ true) × (0 < c)
@@ -37,12 +38,18 @@ passing_tells t e f h = let p = has_passing t (e - 1) f in (grind (arith, nat_te
 passing_passes : (t : ℕ → Bool) (e f : ℕ) → 1 ≤ f → f < e → t f ≡ true → has (passing t (e - 1)) f ≡ true
 passing_passes t e f l g h = let p = has_passing t (e - 1) f in grind (arith, nat_tests)
 
+pub none_in : (c f : ℕ) → c ≡ 0 → has c f ≡ false
+none_in c f z = ap (λ (x : ℕ). has x f) z ∙ has_none f
+
 clash : (x a b : Bool) → b ≡ not a → a ≡ x → b ≡ x → ⊥
 clash x a b p q r = grind arith
 
 module _ {R V : Type 0} (w : Setting R V) where
   -- a candidate, and the base that it leads to
-  pub candidate_tells : (t e f : ℕ) → has (candidates w t e) f ≡ true → (1 ≤ f) × (f < e) × (has t e ≡ not (has t f)) × Base w.n w.independent (swap t e f)
+  abbrev pub Candidate : ℕ → ℕ → ℕ → Type 0
+  Candidate t e f = (1 ≤ f) × (f < e) × (has t e ≡ not (has t f)) × Base w.n w.independent (swap t e f)
+
+  pub candidate_tells : (t e f : ℕ) → has (candidates w t e) f ≡ true → Candidate t e f
   unfolding candidates
   candidate_tells t e f h =
       let p = passing_tells (fits w t e) e f h in
@@ -65,23 +72,24 @@ module _ {R V : Type 0} (w : Setting R V) where
     pub chosen : has (candidates w s.present e) (w.choice s.tie e (candidates w s.present e)) ≡ true
     pub lowest : Still s (λ d. d < e)
 
-  none_of : (c f : ℕ) → c ≡ 0 → has c f ≡ false
-  none_of c f z = ap (λ (x : ℕ). has x f) z ∙ has_none f
+  -- what an advance finds: no open label has a candidate, or it moves at the lowest that has one
+  abbrev pub Seen : State R V → Type 0
+  Seen s = ((step w s ≡ (None, s)) × Still s (λ d. (1 ≤ d) × (d ≤ w.n))) ⊎ ((e : ℕ) × Moved s e)
 
   module _ (W : Sound w) where
-    pub step_view : (s : State R V) → ((step w s ≡ (None, s)) × Still s (λ d. (1 ≤ d) × (d ≤ w.n))) ⊎ ((e : ℕ) × Moved s e)
+    pub step_view : (s : State R V) → Seen s
     unfolding step
     step_view s = go (first_passing (λ e. not (eqb (offers w s e) 0)) w.n) refl (first_passing_is (λ e. not (eqb (offers w s e) 0)) w.n)
       where
         go : (e : ℕ) → first_passing (λ e. not (eqb (offers w s e) 0)) w.n ≡ e → FirstPassing (λ e. not (eqb (offers w s e) 0)) w.n e
-            → ((step_at w s (first_passing (λ e. not (eqb (offers w s e) 0)) w.n) ≡ (None, s)) × Still s (λ d. (1 ≤ d) × (d ≤ w.n))) ⊎ ((e : ℕ) × Moved s e)
-        go zero q (inl (z, h)) = inl (ap (step_at w s) q, λ d k i f. none_of _ f (not_offered _ _ (h d k.0 k.1) i))
+            → Seen s
+        go zero q (inl (z, h)) = inl (ap (step_at w s) q, λ d k i f. none_in _ f (not_offered _ _ (h d k.0 k.1) i))
         go zero q (inr r) = absurd (omega arith)
         go (suc k) q (inl (z, h)) = absurd (omega arith)
         go (suc k) q (inr (l, g, p, h)) = found (offered (has s.active (suc k)) (candidates w s.present (suc k)) p)
           where
             found : (has s.active (suc k) ≡ true) × (0 < candidates w s.present (suc k))
-                → ((step_at w s (first_passing (λ e. not (eqb (offers w s e) 0)) w.n) ≡ (None, s)) × Still s (λ d. (1 ≤ d) × (d ≤ w.n))) ⊎ ((e : ℕ) × Moved s e)
+                → Seen s
             found (i, pos) =
                 let m = some (candidates w s.present (suc k)) pos in
                 let c = candidate_tells s.present (suc k) m.0 m.1 in
@@ -93,7 +101,7 @@ module _ {R V : Type 0} (w : Setting R V) where
                     within = g;
                     active = i;
                     chosen = (W.ties.picks s.tie (suc k) (candidates w s.present (suc k)) m.0 c.1 m.1).1;
-                    lowest = λ d k i f. none_of _ f (not_offered _ _ (h d (has_pos s.active d i) k) i);
+                    lowest = λ d k i f. none_in _ f (not_offered _ _ (h d (has_pos s.active d i) k) i);
                   },
                 )
 
@@ -105,7 +113,7 @@ module _ {R V : Type 0} (w : Setting R V) where
         out i o (f, x, y, N) = (
           f,
           candidate_passes t d f (has_pos b f x) (below_top b t d f p (x ∙ sym (ap not y)) (x ∙ sym i)) (i ∙ sym (ap not y))
-              (subst (Base w.n w.independent) (swap_out t d f (has_pos b f x) i y) N),
+              (subst (Base w.n w.independent) (sym (swap_is t d f (has_pos b f x) i y)) N),
         )
 
         come : has t d ≡ false → has b d ≡ true → (f : ℕ) × (has t f ≡ true) × (has b f ≡ false) × Base w.n w.independent (remove (insert t d) f) → (f : ℕ) × (has (candidates w t d) f ≡ true)

@@ -1,7 +1,7 @@
 use Rattle.std.proofs.Common.{◌≡◌}
 use Rattle.std.specs.List.{list_all}
 use Rattle.labels.specs.Sets.{no_label}
-use Rattle.matroid.specs.Joining.{joins}
+use Rattle.matroid_laws.specs.Greedy.{joins}
 use Rattle.matroid.proofs.Turns.{barred}
 use Rattle.matroid.proofs.bases.none_joins.Given as goal
 
