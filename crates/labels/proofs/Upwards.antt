@@ -169,3 +169,9 @@ labels_among s (suc n) m h = go (has s (suc n)) (labels_among s n m (omega arith
     go : (b : Bool) → list_all (among m) (labels_in s n) ≡ true → list_all (among m) (also (suc n) b (labels_in s n)) ≡ true
     go true ih = let r = list_all-append (among m) (labels_in s n) (suc n ∷ []) in grind (arith, nat_tests)
     go false ih = ih
+
+pub first_among : (n e : ℕ) (es : List ℕ) → list_all (among n) (e ∷ es) ≡ true → (1 ≤ e) × (e ≤ n)
+first_among n e es h = (grind (arith, nat_tests), grind (arith, nat_tests))
+
+pub rest_among : (n e : ℕ) (es : List ℕ) → list_all (among n) (e ∷ es) ≡ true → list_all (among n) es ≡ true
+rest_among n e es h = grind (arith, nat_tests)

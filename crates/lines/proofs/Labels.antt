@@ -1,12 +1,12 @@
 -- The text of a set's labels, of which a loop has written all but the labels still to come.
-use Rattle.std.proofs.Common.{◌≡◌, ℕ, zero, suc, cond, List, [], ◌∷◌, ◌++◌, ◌≤◌, true, sym, arith, refl, ap, ◌∙◌, append_assoc}
+use Rattle.std.proofs.Common.{◌≡◌, ℕ, zero, suc, cond, List, [], ◌∷◌, ◌++◌, true, sym, arith, refl, ap, ◌∙◌, append_assoc}
 use Rattle.std.specs.Fmt.{IsPlainFormatter, HasWritten}
 use Rattle.std.specs.List.{flat_map, list_all}
 use Rattle.std.specs.declared.fmt.Formatter.{Formatter}
 use Rattle.std.proofs.Output.{has_written_append, writes_in_calls_nil}
 use Rattle.labels.specs.Sets.{has}
 use Rattle.labels.specs.Listed.{labels_in}
-use Rattle.labels.proofs.Upwards.{among, flat_labels, labels_among}
+use Rattle.labels.proofs.Upwards.{among, flat_labels, labels_among, rest_among}
 use Rattle.lines.specs.Text.{label_text, labels_text}
 
 text_of_list : (s n : ℕ) → labels_text s n ≡ flat_map label_text (labels_in s n)
@@ -31,15 +31,11 @@ module _ {W : Type 0} (took : W → List ℕ → W → Type 0) (f : Formatter W)
     put = λ p. record { wrote = writes_in_calls_nil took f.writer; plain = p };
   }
 
-  pub next_among : {g : Formatter W} → WrittenBut took f s left g → (e : ℕ) (rest : List ℕ) → left ≡ e ∷ rest
-      → (1 ≤ e) × (e ≤ 64) × (list_all (among 64) rest ≡ true)
-  next_among w e rest q = let h = sym (ap (list_all (among 64)) q) ∙ w.few in (grind arith, grind arith, grind arith)
-
   pub written_more : (g : Formatter W) → WrittenBut took f s left g → (e : ℕ) (rest : List ℕ) → left ≡ e ∷ rest
       → (h : Formatter W) → (IsPlainFormatter g → HasWritten took g (label_text e) h) → WrittenBut took f s rest h
   written_more g w e rest q h k = record {
     front = w.front ++ label_text e;
-    few = (next_among w e rest q).2;
+    few = rest_among 64 e rest (sym (ap (list_all (among 64)) q) ∙ w.few);
     whole = append_assoc w.front (label_text e) (flat_map label_text rest) ∙ ap (λ (l : List ℕ). w.front ++ flat_map label_text l) (sym q) ∙ w.whole;
     put = λ p. let x = w.put p in has_written_append took f _ g _ h x (k x.plain);
   }

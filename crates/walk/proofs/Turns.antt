@@ -1,11 +1,11 @@
 -- What the loops of a walk answer, in the words of the specs.
 use Rattle.std.proofs.Common.{◌≡◌, ℕ, zero, suc, ◌-◌, ◌^◌, ◌<◌, ◌≤◌, Bool, true, false, cond, not, eqb, List, ◌∷◌, Some, None, sym, refl, ap, ◌∙◌, subst, arith}
 use lib.Bits.{bit_or, bit_xor}
-use Rattle.std.specs.List.{find, fold, list_all}
+use Rattle.std.specs.List.{find, fold}
 use Rattle.std.proofs.lemmas.Bool.Decides.{nat_tests}
 use Rattle.labels.specs.Sets.{has, differs}
 use Rattle.labels.specs.Listed.{labels_in}
-use Rattle.labels.proofs.Upwards.{FirstListed, among, find_listed, fold_labels, passing_listed}
+use Rattle.labels.proofs.Upwards.{FirstListed, find_listed, fold_labels, passing_listed}
 use Rattle.labels.proofs.Member.{has_pos}
 use Rattle.labels.proofs.Words.{has_outside}
 use Rattle.label_words.specs.Words.{word_of}
@@ -82,9 +82,3 @@ found_at f t e c es k some = ap (λ (b : Bool). cond b (Some e) (find (partnered
 
 pub passed : (f : ℕ → Bool) (t e c : ℕ) (es : List ℕ) → c ≡ partners f t e → c ≡ 0 → find (partnered_at f t) (e ∷ es) ≡ find (partnered_at f t) es
 passed f t e c es k none = ap (λ (x : ℕ). cond (not (eqb x 0)) (Some e) (find (partnered_at f t) es)) (sym k ∙ none)
-
-pub first_among : (n e : ℕ) (es : List ℕ) → list_all (among n) (e ∷ es) ≡ true → (1 ≤ e) × (e ≤ n)
-first_among n e es h = (grind (arith, nat_tests), grind (arith, nat_tests))
-
-pub rest_among : (n e : ℕ) (es : List ℕ) → list_all (among n) (e ∷ es) ≡ true → list_all (among n) es ≡ true
-rest_among n e es h = grind (arith, nat_tests)

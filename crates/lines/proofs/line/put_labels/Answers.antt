@@ -1,5 +1,7 @@
-use Rattle.lines.proofs.Labels.{next_among, written_none, written_more}
-use Rattle.std.proofs.Common.{is_ok, ap, ◌∙◌}
+use Rattle.std.specs.List.{list_all}
+use Rattle.labels.proofs.Upwards.{among, first_among}
+use Rattle.lines.proofs.Labels.{written_none, written_more}
+use Rattle.std.proofs.Common.{is_ok, ap, sym, ◌∙◌}
 use Rattle.lines.proofs.line.put_labels.Goals as goal
 
 pub loop-label-init : goal.loop-label-init
@@ -14,4 +16,4 @@ loop-label-preserved g c =
 
 pub text_of-requires : goal.text_of-requires
 text_of-requires g c =
-    let r = next_among g.W.Write.write_str_gives c.args.f.now c.args.labels _ c.loop-label.invariant c.in-Some.label c.next.new.self c.in-Some.ensures.steps in (r.0, r.1)
+    first_among 64 c.in-Some.label c.next.new.self (sym (ap (list_all (among 64)) c.in-Some.ensures.steps) ∙ c.loop-label.invariant.few)

@@ -1,8 +1,8 @@
 use Rattle.std.proofs.Common.{sym, ap, ◌∙◌, arith}
 use Rattle.std.specs.List.{find, list_all}
-use Rattle.labels.proofs.Upwards.{among, labels_among}
+use Rattle.labels.proofs.Upwards.{among, first_among, labels_among, rest_among}
 use Rattle.label_words.proofs.Ascending.{listed_to}
-use Rattle.walk.proofs.Turns.{partnered_at, first_among, rest_among, found_at, passed, moves, none_moves}
+use Rattle.walk.proofs.Turns.{partnered_at, found_at, passed, moves, none_moves}
 use Rattle.walk.proofs.state.Walk.movable.Goals as goal
 
 pub loop-label-init : goal.loop-label-init
