@@ -1,8 +1,8 @@
 -- A label that passes a test, or that none does.
-use Rattle.std.proofs.Common.{◌≡◌, ℕ, zero, suc, ◌≤◌, Bool, true, false, ◌⊎◌, refl, ap, ◌∙◌, not, ◌&&◌, ap₂, inl, inr, arith}
-use native.Mathlib.Decide.{ℕ_discrete}
+use Rattle.std.proofs.Common.{◌≡◌, ℕ, zero, suc, ◌≤◌, Bool, true, false, ◌⊎◌, refl, not, ◌&&◌, ap₂, inl, inr, arith}
+use Rattle.std.proofs.lemmas.Bool.{and_parts, not-true}
 use Rattle.labels.specs.Sets.{first_passing, no_label}
-use Rattle.labels.proofs.Passing.{FirstPassing, first_passing_is}
+use Rattle.labels.proofs.Passing.{FirstPassing, first_passing_is, one_more}
 
 -- a label of 1..n that passes
 pub find : (t : ℕ → Bool) (n : ℕ) → ((e : ℕ) × (1 ≤ e) × (e ≤ n) × (t e ≡ true)) ⊎ ((e : ℕ) → 1 ≤ e → e ≤ n → t e ≡ false)
@@ -15,12 +15,8 @@ find t n = go (first_passing_is t n)
 -- ---- no label of 1..n passes, as a test
 
 pub no_label_tells : (t : ℕ → Bool) (n : ℕ) → no_label t n ≡ true → (e : ℕ) → 1 ≤ e → e ≤ n → t e ≡ false
-no_label_tells t zero h e l g = absurd (omega arith)
-no_label_tells t (suc n) h e l g = last (ℕ_discrete e (suc n)) (no_label_tells t n)
-  where
-    last : Dec (e ≡ suc n) → (no_label t n ≡ true → (e : ℕ) → 1 ≤ e → e ≤ n → t e ≡ false) → t e ≡ false
-    last (yes q) ih = ap t q ∙ grind arith
-    last (no q) ih = ih (grind arith) e l (omega arith)
+no_label_tells t zero h = λ e l g. absurd (omega arith)
+no_label_tells t (suc n) h = let p = and_parts _ _ h in one_more (λ (e : ℕ). t e ≡ false) n (no_label_tells t n p.1) (not-true (t (suc n)) p.0)
 
 pub no_label_passes : (t : ℕ → Bool) (n : ℕ) → ((e : ℕ) → 1 ≤ e → e ≤ n → t e ≡ false) → no_label t n ≡ true
 no_label_passes t zero f = refl

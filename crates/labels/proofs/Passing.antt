@@ -1,5 +1,5 @@
 -- The labels that pass a test, the lowest that does, and the highest of a set below a label.
-use Rattle.std.proofs.Common.{◌≡◌, ℕ, zero, suc, ◌<◌, ◌≤◌, Bool, true, false, cond, ◌&&◌, leb, ◌⊎◌, sym, refl, ap, ◌∙◌, inl, inr, arith}
+use Rattle.std.proofs.Common.{◌≡◌, ℕ, zero, suc, ◌<◌, ◌≤◌, Bool, true, false, cond, ◌&&◌, leb, ◌⊎◌, sym, refl, ap, ◌∙◌, subst, inl, inr, arith}
 use native.Mathlib.Decide.{ℕ_discrete}
 use Rattle.std.proofs.lemmas.Bool.Decides.{nat_tests}
 use Rattle.labels.specs.Sets.{has, insert, passing, first_passing, or_else, highest_below}
@@ -19,6 +19,14 @@ has_passing t (suc m) f = go (t (suc m)) refl (has_passing t m f)
 pub passing_same : (t u : ℕ → Bool) (m : ℕ) → ((f : ℕ) → 1 ≤ f → f ≤ m → t f ≡ u f) → passing t m ≡ passing u m
 passing_same t u m same = ext _ _ (λ f. let p = has_passing t m f in let q = has_passing u m f in let r = same f in grind (arith, nat_tests))
 
+-- what holds of 1..m and of the label above holds of all of them
+pub one_more : (P : ℕ → Type 0) (m : ℕ) → ((e : ℕ) → 1 ≤ e → e ≤ m → P e) → P (suc m) → (e : ℕ) → 1 ≤ e → e ≤ suc m → P e
+one_more P m all here e l g = go (ℕ_discrete e (suc m))
+  where
+    go : Dec (e ≡ suc m) → P e
+    go (yes q) = subst P (sym q) here
+    go (no q) = all e l (omega arith)
+
 abbrev pub FirstPassing : (ℕ → Bool) → ℕ → ℕ → Type 0
 FirstPassing t m e = ((e ≡ 0) × ((f : ℕ) → 1 ≤ f → f ≤ m → t f ≡ false))
     ⊎ ((1 ≤ e) × (e ≤ m) × (t e ≡ true) × ((f : ℕ) → 1 ≤ f → f < e → t f ≡ false))
@@ -28,16 +36,9 @@ unfolding first_passing
 first_passing_is t zero = inl (refl, λ f l h. absurd (omega arith))
 first_passing_is t (suc m) = go (first_passing t m) (first_passing_is t m) (t (suc m)) refl
   where
-    none : ((f : ℕ) → 1 ≤ f → f ≤ m → t f ≡ false) → t (suc m) ≡ false → (f : ℕ) → 1 ≤ f → f ≤ suc m → t f ≡ false
-    none h p f l g = last (ℕ_discrete f (suc m))
-      where
-        last : Dec (f ≡ suc m) → t f ≡ false
-        last (yes q) = ap t q ∙ p
-        last (no q) = h f l (omega arith)
-
     go : (e : ℕ) → FirstPassing t m e → (b : Bool) → t (suc m) ≡ b → FirstPassing t (suc m) (or_else e b (suc m))
     go zero (inl (z, h)) true p = inr (omega arith, omega arith, p, λ f l g. h f l (omega arith))
-    go zero (inl (z, h)) false p = inl (refl, none h p)
+    go zero (inl (z, h)) false p = inl (refl, one_more (λ (f : ℕ). t f ≡ false) m h p)
     go zero (inr r) b p = absurd (omega arith)
     go (suc e) (inl (z, h)) b p = absurd (omega arith)
     go (suc e) (inr (l, g, p, h)) b q = inr (l, omega arith, p, h)

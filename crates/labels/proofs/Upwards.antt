@@ -12,6 +12,7 @@ use Rattle.std.proofs.lemmas.Grind.{flat_map-append}
 use Rattle.labels.specs.Sets.{has, full, insert, no_label, passing}
 use Rattle.labels.proofs.Member.{has_above, has_pos, has_full, members}
 use Rattle.labels.proofs.Card.{ext}
+use Rattle.labels.proofs.Passing.{one_more}
 use Rattle.labels.specs.Listed.{labels_in}
 
 -- what the label n adds
@@ -134,11 +135,7 @@ FirstListed p s n None = (d : ℕ) → 1 ≤ d → d ≤ n → has s d ≡ true 
 FirstListed p s n (Some e) = (1 ≤ e) × (e ≤ n) × (has s e ≡ true) × (p e ≡ true) × ((d : ℕ) → 1 ≤ d → d < e → has s d ≡ true → p d ≡ false)
 
 longer : (p : ℕ → Bool) (s n : ℕ) (r : Option ℕ) → (has s (suc n) ≡ true → p (suc n) ≡ false) → FirstListed p s n r → FirstListed p s (suc n) r
-longer p s n None f h = λ d l g i. at d l g i (ℕ_discrete d (suc n))
-  where
-    at : (d : ℕ) → 1 ≤ d → d ≤ suc n → has s d ≡ true → Dec (d ≡ suc n) → p d ≡ false
-    at d l g i (yes z) = ap p z ∙ f (sym (ap (has s) z) ∙ i)
-    at d l g i (no z) = h d l (omega arith) i
+longer p s n None f h = one_more (λ (d : ℕ). has s d ≡ true → p d ≡ false) n h f
 longer p s n (Some e) f h = (h.0, omega arith, h.2, h.3, h.4)
 
 pub find_listed : (p : ℕ → Bool) (s n : ℕ) → FirstListed p s n (find p (labels_in s n))

@@ -1,9 +1,9 @@
 -- What going upwards keeps: an independent set to which no further label that was passed can be added.
-use Rattle.std.proofs.Common.{◌≡◌, ℕ, zero, suc, ◌≤◌, Bool, true, false, cond, ◌&&◌, ◌⊎◌, sym, refl, ap, ◌∙◌, inl, inr, arith}
-use native.Mathlib.Decide.{ℕ_discrete}
-use Rattle.std.proofs.lemmas.Bool.{both_ways, cases_Bool, false_from_ne_true, true≢false}
+use Rattle.std.proofs.Common.{◌≡◌, ℕ, zero, suc, ◌≤◌, Bool, true, false, cond, ◌&&◌, ◌⊎◌, refl, inl, inr, arith}
+use Rattle.std.proofs.lemmas.Bool.{both_ways, cases_Bool, false_from_ne_true}
 use Rattle.labels.specs.Sets.{has, insert, full, Subset, card}
 use Rattle.labels.proofs.Member.{members}
+use Rattle.labels.proofs.Passing.{one_more}
 use Rattle.labels.proofs.Parts.{in_full, none_subset, insert_both, insert_more}
 use Rattle.matroid_laws.specs.Matroids.{IsMatroid, Base, Rank}
 use Rattle.matroid_laws.specs.Greedy.{joined, extended, greedy, start}
@@ -34,32 +34,33 @@ module _ (n : ℕ) (independent : ℕ → Bool) (M : IsMatroid n independent) wh
   turn : (s k₀ m k : ℕ) → Kept independent s k₀ m k → Kept independent s k₀ (suc m) (joined independent s k (suc m))
   turn s k₀ m k P = go (has s (suc m)) refl (independent (insert k (suc m))) refl
     where
-      stays : ((e : ℕ) → e ≡ suc m → has s e ≡ true → independent (insert k e) ≡ false) → Kept independent s k₀ (suc m) k
-      stays last = record { is_independent = P.is_independent; holds = P.holds; beyond = P.beyond; stuck = λ e l g i o. later e l g i o (ℕ_discrete e (suc m)) }
-        where
-          later : (e : ℕ) → 1 ≤ e → e ≤ suc m → has s e ≡ true → has k e ≡ false → Dec (e ≡ suc m) → independent (insert k e) ≡ false
-          later e l g i o (yes z) = last e z i
-          later e l g i o (no z) = P.stuck e l (omega arith) i o
+      stays : (has s (suc m) ≡ true → independent (insert k (suc m)) ≡ false) → Kept independent s k₀ (suc m) k
+      stays last = record {
+        is_independent = P.is_independent;
+        holds = P.holds;
+        beyond = P.beyond;
+        stuck = one_more (λ (e : ℕ). has s e ≡ true → has k e ≡ false → independent (insert k e) ≡ false) m P.stuck (λ i _. last i);
+      }
 
       go : (x : Bool) → has s (suc m) ≡ x → (y : Bool) → independent (insert k (suc m)) ≡ y → Kept independent s k₀ (suc m) (cond (x && y) (insert k (suc m)) k)
       go true p true q = record {
         is_independent = q;
         holds = insert_more k₀ k (suc m) (omega arith) P.holds;
         beyond = λ e h. old e h (cases_Bool (has k e));
-        stuck = λ e l g i o. later e l g i o (ℕ_discrete e (suc m));
+        stuck = one_more (λ (e : ℕ). has s e ≡ true → has (insert k (suc m)) e ≡ false → independent (insert (insert k (suc m)) e) ≡ false) m later
+            (λ i o. absurd (both_ways _ o (insert_has k (suc m) (omega arith))));
       }
         where
           old : (e : ℕ) → has (insert k (suc m)) e ≡ true → (has k e ≡ true) ⊎ (has k e ≡ false) → (has k₀ e ≡ true) ⊎ (has s e ≡ true)
           old e h (inl i) = P.beyond e i
-          old e h (inr o) = inr (insert_old k s (suc m) e (omega arith) p (λ i. absurd (true≢false (sym i ∙ o))) h)
+          old e h (inr o) = inr (insert_old k s (suc m) e (omega arith) p (λ i. absurd (both_ways _ o i)) h)
 
-          later : (e : ℕ) → 1 ≤ e → e ≤ suc m → has s e ≡ true → has (insert k (suc m)) e ≡ false → Dec (e ≡ suc m) → independent (insert (insert k (suc m)) e) ≡ false
-          later e l g i o (yes z) = absurd (true≢false (sym (ap (has (insert k (suc m))) z ∙ insert_has k (suc m) (omega arith)) ∙ o))
-          later e l g i o (no z) =
+          later : (e : ℕ) → 1 ≤ e → e ≤ m → has s e ≡ true → has (insert k (suc m)) e ≡ false → independent (insert (insert k (suc m)) e) ≡ false
+          later e l g i o =
               dependent_grows (insert k e) (insert (insert k (suc m)) e) (insert_both k (insert k (suc m)) e l (insert_more k k (suc m) (omega arith) (λ f x. x)))
-              (P.stuck e l (omega arith) i (insert_out k (suc m) e (omega arith) o))
-      go true p false q = stays (λ e z i. ap (λ (x : ℕ). independent (insert k x)) z ∙ q)
-      go false p y q = stays (λ e z i. absurd (true≢false (sym i ∙ ap (has s) z ∙ p)))
+              (P.stuck e l g i (insert_out k (suc m) e (omega arith) o))
+      go true p false q = stays (λ _. q)
+      go false p y q = stays (λ i. absurd (both_ways _ p i))
 
   keeps : (s k₀ m : ℕ) → independent k₀ ≡ true → Kept independent s k₀ m (extended independent s k₀ m)
   unfolding extended

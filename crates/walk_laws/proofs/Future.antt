@@ -93,8 +93,7 @@ module _ {R V : Type 0} (w : Setting R V) where
     pub move_is : (s t : State R V) (x : Exchange) → step w s ≡ (Some x, t) → Moves s t x
     move_is s t x q = go (step_view w W s)
       where
-        go : Seen w s
-            → Moves s t x
+        go : Seen w s → Moves s t x
         go (inl (p, still)) = absurd (no_both _ _ _ (sym p ∙ q))
         go (inr (e, m)) = (
           e,

@@ -81,15 +81,13 @@ module _ {R V : Type 0} (w : Setting R V) where
     unfolding step
     step_view s = go (first_passing (λ e. not (eqb (offers w s e) 0)) w.n) refl (first_passing_is (λ e. not (eqb (offers w s e) 0)) w.n)
       where
-        go : (e : ℕ) → first_passing (λ e. not (eqb (offers w s e) 0)) w.n ≡ e → FirstPassing (λ e. not (eqb (offers w s e) 0)) w.n e
-            → Seen s
+        go : (e : ℕ) → first_passing (λ e. not (eqb (offers w s e) 0)) w.n ≡ e → FirstPassing (λ e. not (eqb (offers w s e) 0)) w.n e → Seen s
         go zero q (inl (z, h)) = inl (ap (step_at w s) q, λ d k i f. none_in _ f (not_offered _ _ (h d k.0 k.1) i))
         go zero q (inr r) = absurd (omega arith)
         go (suc k) q (inl (z, h)) = absurd (omega arith)
         go (suc k) q (inr (l, g, p, h)) = found (offered (has s.active (suc k)) (candidates w s.present (suc k)) p)
           where
-            found : (has s.active (suc k) ≡ true) × (0 < candidates w s.present (suc k))
-                → Seen s
+            found : (has s.active (suc k) ≡ true) × (0 < candidates w s.present (suc k)) → Seen s
             found (i, pos) =
                 let m = some (candidates w s.present (suc k)) pos in
                 let c = candidate_tells s.present (suc k) m.0 m.1 in
