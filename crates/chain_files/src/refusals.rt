@@ -86,7 +86,6 @@ fn write_beginning<W: Write>(out: &mut W, b: Beginning) -> io::Result<()> {
 }
 
 /// Writes what a call of a writer answers.
-// The trial of piles prints entries alike; a crate for both would be longer than they are.
 fn write_answer<W: Write>(out: &mut W, answer: Result<(), WriterRefusal>) -> io::Result<()> {
     match answer {
         Ok(()) => writeln!(out, "written"),

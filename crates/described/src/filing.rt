@@ -33,6 +33,7 @@ fn add_exchanges<P: Matroid, R: TieRule>(
     walk: &mut Walk<P, R, Shifts>,
     steps: u64,
 ) -> Result<(), Unwritten> {
+    // By step: a refusal tells how many steps there were before.
     for before in 0..steps {
         let Some(x) = walk.advance() else {
             break;

@@ -13,7 +13,8 @@ use walk::{Parts, Walk};
 const SPREAD: u64 = 11400714819323198485;
 
 /// What labels are worth in shifts.
-// The benchmark has the same five lines; a crate for them would be longer than they are.
+// The benchmark has the same five lines; a public function for both would need a contract on all the shifts, its proof and an edit.
+// By label, here and below: what a label is worth is made of its number.
 fn shifts() -> Shifts {
     let mut shifts = Shifts::new();
     for label in 1..=LIMIT as i64 {

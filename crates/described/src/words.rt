@@ -36,6 +36,7 @@ fn word_length(text: &[u8]) -> usize
         .unwrap_or(text.len())
 }
 
+// The library's conversion, from a byte and to the type of the numbers here.
 fn digit(b: u8) -> Option<u64> {
     char::from(b).to_digit(10).map(u64::from)
 }

@@ -16,14 +16,6 @@ mod tests {
     use matroid::Matroid;
     use std::test::Fail;
 
-    // The number of a refusal, and 0 of an entry that was taken.
-    fn number<T: Drop>(entry: Result<T, EntryRefusal>) -> u8 {
-        match entry {
-            Ok(_) => 0,
-            Err(refusal) => refusal.number(),
-        }
-    }
-
     #[test]
     fn triangle_and_loop(rt: HostRuntime) -> Result<(), Fail> {
         let mut g = Graphic::new(3)?;
@@ -41,13 +33,18 @@ mod tests {
 
     #[test]
     fn points_out_of_range(rt: HostRuntime) -> Result<(), Fail> {
-        assert_eq!(rt; number(Graphic::new(0)), 6);
-        assert_eq!(rt; number(Graphic::new(MOST_POINTS + 1)), 6);
+        assert_eq!(rt; Graphic::new(0).err().map(EntryRefusal::number), Some(6));
+        assert_eq!(rt;
+            Graphic::new(MOST_POINTS + 1)
+                .err()
+                .map(EntryRefusal::number),
+            Some(6)
+        );
         let mut g = Graphic::new(3)?;
-        assert_eq!(rt; number(g.add(0, 1)), 6);
-        assert_eq!(rt; number(g.add(1, 4)), 6);
+        assert_eq!(rt; g.add(0, 1).err().map(EntryRefusal::number), Some(6));
+        assert_eq!(rt; g.add(1, 4).err().map(EntryRefusal::number), Some(6));
         assert!(rt; g.ends(1) == None);
-        assert_eq!(rt; number(g.add(1, 3)), 0);
+        assert_eq!(rt; g.add(1, 3).err(), None);
         assert!(rt; g.ends(1) == Some((1, 3)));
         Ok(())
     }
@@ -58,8 +55,11 @@ mod tests {
         for _ in 0..labels::LIMIT {
             g.add(1, MOST_POINTS)?;
         }
-        assert_eq!(rt; number(g.add(1, 2)), 7);
-        assert_eq!(rt; number(g.add(1, MOST_POINTS + 1)), 6);
+        assert_eq!(rt; g.add(1, 2).err().map(EntryRefusal::number), Some(7));
+        assert_eq!(rt;
+            g.add(1, MOST_POINTS + 1).err().map(EntryRefusal::number),
+            Some(6)
+        );
         assert_eq!(rt; g.size() as usize, labels::LIMIT);
         Ok(())
     }

@@ -1,2 +1,3 @@
 mod Labels
+mod Sets
 mod Texts

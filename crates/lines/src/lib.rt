@@ -4,10 +4,12 @@
 mod label_text;
 mod line;
 mod refused_line;
+mod set_text;
 #[cfg(test)]
 mod tests;
 mod total_line;
 
 pub use line::Line;
 pub use refused_line::RefusedLine;
+pub use set_text::SetText;
 pub use total_line::TotalLine;

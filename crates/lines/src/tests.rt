@@ -52,3 +52,12 @@ fn refusals(rt: HostRuntime) -> Result<(), Fail> {
     assert_eq!(rt; refused.to_string(rt.alloc())?.as_str(), "refused 5 row 3");
     Ok(())
 }
+
+#[test]
+fn sets(rt: HostRuntime) -> Result<(), Fail> {
+    assert_eq!(rt; SetText(0).to_string(rt.alloc())?.as_str(), "none");
+    assert_eq!(rt; SetText(0b1101).to_string(rt.alloc())?.as_str(), "134");
+    let ends = SetText(1 << 63 | 1);
+    assert_eq!(rt; format!(in rt.alloc(); "{ends};")?.as_str(), "164;");
+    Ok(())
+}

@@ -17,14 +17,6 @@ mod tests {
     use matroid::Matroid;
     use std::test::Fail;
 
-    // The number of a refusal, and 0 of an entry that was taken.
-    fn number<T: Drop>(entry: Result<T, EntryRefusal>) -> u8 {
-        match entry {
-            Ok(_) => 0,
-            Err(refusal) => refusal.number(),
-        }
-    }
-
     #[test]
     fn two_of_the_first_and_none_of_the_last(rt: HostRuntime) -> Result<(), Fail> {
         let mut p = Partition::new([2, 1, 48, 48, 48, 48, 48, 0])?;
@@ -44,15 +36,20 @@ mod tests {
 
     #[test]
     fn refusals(rt: HostRuntime) -> Result<(), Fail> {
-        assert_eq!(rt; number(Partition::new([0, 0, 0, 0, 0, 0, 0, 49])), 6);
+        assert_eq!(rt;
+            Partition::new([0, 0, 0, 0, 0, 0, 0, 49])
+                .err()
+                .map(EntryRefusal::number),
+            Some(6)
+        );
         let mut p = Partition::new([48; CLASSES])?;
-        assert_eq!(rt; number(p.add(0)), 6);
-        assert_eq!(rt; number(p.add(9)), 6);
+        assert_eq!(rt; p.add(0).err().map(EntryRefusal::number), Some(6));
+        assert_eq!(rt; p.add(9).err().map(EntryRefusal::number), Some(6));
         for _ in 0..labels::LIMIT {
             p.add(8)?;
         }
-        assert_eq!(rt; number(p.add(9)), 6);
-        assert_eq!(rt; number(p.add(1)), 7);
+        assert_eq!(rt; p.add(9).err().map(EntryRefusal::number), Some(6));
+        assert_eq!(rt; p.add(1).err().map(EntryRefusal::number), Some(7));
         assert_eq!(rt; p.size() as usize, labels::LIMIT);
         Ok(())
     }

@@ -22,16 +22,13 @@ pub struct Case {
 }
 
 /// How many of the words below `words` are bases that are wanted.
+// The trial of small rigs counts all bases by two of these steps, with a contract; here a caller's test is asked too, for `compare_part`.
 fn bases_below<P: Matroid, F: Fn(u64) -> bool>(matroid: &P, words: u64, wanted: F) -> u64
     requires { F.IsAlwaysCallable wanted }
 {
-    let mut found: u64 = 0;
-    for set in 0..words {
-        if wanted(set) && is_base(matroid, set) {
-            found += 1;
-        }
-    }
-    found
+    (0..words)
+        .filter(|set| wanted(*set) && is_base(matroid, *set))
+        .count() as u64
 }
 
 /// Whether the highest label that is in exactly one of two sets is active; so it is said of equal sets too.
@@ -44,6 +41,7 @@ fn is_ahead(set: u64, first: u64, active: u64) -> bool {
 pub fn walked<P: Matroid, R: TieRule, M: Measure>(
     mut walk: Walk<P, R, M>,
 ) -> Parts<P, R, M, M::Value> {
+    // A loop: an iterator made by `std::iter::from_fn` is not known to end, and what runs one to its end asks that.
     while walk.advance().is_some() {}
     walk.close()
 }

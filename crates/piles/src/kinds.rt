@@ -1,35 +1,43 @@
 //! The matroids that the layers lie over.
 use anyhow::Context;
 use binary_matroid::Binary;
+use entry::EntryRefusal;
 use graphic::Graphic;
 use partition::{CLASSES, Partition};
 
-/// The graph with these edges.
-// The trial of small rigs has these lines too; a crate for both would be longer than they are.
-pub fn graph_of(points: u8, edges: &[(u8, u8)]) -> anyhow::Result<Graphic> {
-    let mut graphic = Graphic::new(points).context("the number of points is refused")?;
-    for (a, b) in edges {
-        graphic.add(*a, *b).context("an edge is refused")?;
+/// The table with these values entered, label by label; `refused` says what went wrong where one is refused.
+pub(crate) fn filled<T: Drop, V: Copy, F: Fn(&mut T, V) -> Result<(), EntryRefusal>>(
+    mut table: T,
+    values: &[V],
+    refused: &'static str,
+    add: F,
+) -> anyhow::Result<T>
+    requires { F.IsAlwaysCallable add }
+{
+    for value in values {
+        add(&mut table, *value).context(refused)?;
     }
-    Ok(graphic)
+    Ok(table)
+}
+
+/// The graph with these edges.
+// The trial of small rigs has a `graph_of` of five lines, for it fills no other table so; `rig.rt` there says what one for both would need.
+pub fn graph_of(points: u8, edges: &[(u8, u8)]) -> anyhow::Result<Graphic> {
+    let graphic = Graphic::new(points).context("the number of points is refused")?;
+    filled(graphic, edges, "an edge is refused", |graphic, (a, b)| {
+        graphic.add(a, b)
+    })
 }
 
 /// The binary matroid with these columns.
 pub fn columns_of(columns: &[u64]) -> anyhow::Result<Binary> {
-    let mut binary = Binary::new();
-    for column in columns {
-        binary.add(*column).context("a column is refused")?;
-    }
-    Ok(binary)
+    filled(Binary::new(), columns, "a column is refused", Binary::add)
 }
 
 /// The partition matroid with these limits, and with the labels in these classes.
 pub fn classes_of(limits: [u8; CLASSES], classes: &[u8]) -> anyhow::Result<Partition> {
-    let mut partition = Partition::new(limits).context("a limit is refused")?;
-    for class in classes {
-        partition.add(*class).context("a class is refused")?;
-    }
-    Ok(partition)
+    let partition = Partition::new(limits).context("a limit is refused")?;
+    filled(partition, classes, "a class is refused", Partition::add)
 }
 
 /// A wheel: point 1 is joined to each of a round of four points, spokes and rim in turn.

@@ -1,7 +1,6 @@
 //! Each rule with each measure over one pile, and totals that are worked out by hand.
 use crate::comparing::{Case, compare, walked};
-use crate::kinds::{graph_of, nine_columns};
-use anyhow::Context;
+use crate::kinds::{filled, graph_of, nine_columns};
 use binary_matroid::Binary;
 use graphic::Graphic;
 use layers::{Dual, Truncation};
@@ -17,21 +16,18 @@ const DOUBLED: [(u8, u8); 4] = [(1, 2), (2, 3), (1, 3), (1, 3)];
 const BRIDGED: [(u8, u8); 3] = [(1, 2), (2, 3), (2, 3)];
 
 /// The measure with these words.
-fn words_of(entries: &[u64]) -> anyhow::Result<Words> {
-    let mut words = Words::new();
-    for bits in entries {
-        words.add(*bits).context("a word is refused")?;
-    }
-    Ok(words)
+pub fn words_of(entries: &[u64]) -> anyhow::Result<Words> {
+    filled(Words::new(), entries, "a word is refused", Words::add)
 }
 
 /// The measure with these shifts.
-fn shifts_of(entries: &[(i64, i64)]) -> anyhow::Result<Shifts> {
-    let mut shifts = Shifts::new();
-    for (across, along) in entries {
-        shifts.add(*across, *along).context("a shift is refused")?;
-    }
-    Ok(shifts)
+pub fn shifts_of(entries: &[(i64, i64)]) -> anyhow::Result<Shifts> {
+    filled(
+        Shifts::new(),
+        entries,
+        "a shift is refused",
+        |shifts, (across, along)| shifts.add(across, along),
+    )
 }
 
 /// A pile of two layers.

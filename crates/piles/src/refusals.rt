@@ -1,98 +1,84 @@
 //! What is refused when labels are entered by hand.
-use anyhow::Context;
+use crate::kinds::{classes_of, columns_of, graph_of};
+use crate::measuring::{shifts_of, words_of};
 use binary_matroid::Binary;
 use entry::{EntryRefusal, MOST_POINTS};
-use graphic::Graphic;
 use labels::LIMIT;
-use measure::{Shifts, Words};
+use measure::Words;
 use partition::{CLASSES, Partition};
-use std::io;
 use std::io::Write;
 
-/// Writes the line of an entry.
-// The trial of chain files prints answers alike; a crate for both would be longer than they are.
-fn write_entry<W: Write>(
+/// Enters values into a table, label by label, and writes the line of each.
+fn write_entries<W: Write, T: Drop, V: Copy, F: Fn(&mut T, V) -> Result<(), EntryRefusal>>(
     out: &mut W,
-    what: &str,
-    entry: Result<(), EntryRefusal>,
-) -> io::Result<()> {
-    match entry {
-        Ok(()) => writeln!(out, "{what}: entered"),
-        Err(refusal) => writeln!(out, "{what}: refused {}", refusal.number()),
+    mut table: T,
+    entries: &[(&'static str, V)],
+    add: F,
+) -> anyhow::Result<()>
+    requires { F.IsAlwaysCallable add }
+{
+    for (what, value) in entries {
+        match add(&mut table, *value) {
+            Ok(()) => writeln!(out, "{what}: entered")?,
+            Err(refusal) => writeln!(out, "{what}: refused {}", refusal.number())?,
+        }
     }
+    Ok(())
 }
 
-/// Edges: as many as there can be, and then one more, and some whose points are out of range.
+/// Edges, where there are as many as there can be but one; some with points that are out of range.
 fn write_graphic<W: Write>(out: &mut W) -> anyhow::Result<()> {
-    let mut graphic = Graphic::new(MOST_POINTS).context("the number of points is refused")?;
-    for _ in 1..LIMIT {
-        graphic.add(1, 2).context("an edge is refused")?;
-    }
-    write_entry(
-        out,
-        "graphic, 48th label, point 33",
-        graphic.add(1, MOST_POINTS + 1),
-    )?;
-    write_entry(
-        out,
-        "graphic, 48th label",
-        graphic.add(MOST_POINTS, MOST_POINTS),
-    )?;
-    write_entry(out, "graphic, 49th label", graphic.add(1, 2))?;
-    write_entry(
-        out,
-        "graphic, 49th label, point 33",
-        graphic.add(MOST_POINTS + 1, 2),
-    )?;
-    write_entry(out, "graphic, 49th label, point 0", graphic.add(2, 0))?;
-    Ok(())
+    let graphic = graph_of(MOST_POINTS, &[(1, 2); LIMIT - 1])?;
+    let entries = [
+        ("graphic, 48th label, point 33", (1, MOST_POINTS + 1)),
+        ("graphic, 48th label", (MOST_POINTS, MOST_POINTS)),
+        ("graphic, 49th label", (1, 2)),
+        ("graphic, 49th label, point 33", (MOST_POINTS + 1, 2)),
+        ("graphic, 49th label, point 0", (2, 0)),
+    ];
+    write_entries(out, graphic, &entries, |graphic, (a, b)| graphic.add(a, b))
 }
 
 /// Labels in classes, likewise.
 fn write_partition<W: Write>(out: &mut W) -> anyhow::Result<()> {
-    let mut partition = Partition::new([LIMIT as u8; CLASSES]).context("a limit is refused")?;
-    for _ in 1..LIMIT {
-        partition.add(1).context("a class is refused")?;
-    }
-    write_entry(out, "partition, 48th label, class 9", partition.add(9))?;
-    write_entry(out, "partition, 48th label", partition.add(8))?;
-    write_entry(out, "partition, 49th label", partition.add(8))?;
-    write_entry(out, "partition, 49th label, class 9", partition.add(9))?;
-    write_entry(out, "partition, 49th label, class 0", partition.add(0))?;
-    Ok(())
+    let partition = classes_of([LIMIT as u8; CLASSES], &[1; LIMIT - 1])?;
+    let entries = [
+        ("partition, 48th label, class 9", 9),
+        ("partition, 48th label", 8),
+        ("partition, 49th label", 8),
+        ("partition, 49th label, class 9", 9),
+        ("partition, 49th label, class 0", 0),
+    ];
+    write_entries(out, partition, &entries, Partition::add)
 }
 
 /// Columns.
 fn write_binary<W: Write>(out: &mut W) -> anyhow::Result<()> {
-    let mut binary = Binary::new();
-    for _ in 1..LIMIT {
-        binary.add(1).context("a column is refused")?;
-    }
-    write_entry(out, "binary, 48th label", binary.add(u64::MAX))?;
-    write_entry(out, "binary, 49th label", binary.add(0))?;
-    Ok(())
+    let binary = columns_of(&[1; LIMIT - 1])?;
+    let entries = [("binary, 48th label", u64::MAX), ("binary, 49th label", 0)];
+    write_entries(out, binary, &entries, Binary::add)
 }
 
 /// Shifts.
 fn write_shifts<W: Write>(out: &mut W) -> anyhow::Result<()> {
-    let mut shifts = Shifts::new();
-    for _ in 1..LIMIT {
-        shifts.add(1, -1).context("a shift is refused")?;
-    }
-    write_entry(out, "shifts, 48th label", shifts.add(i64::MIN, i64::MAX))?;
-    write_entry(out, "shifts, 49th label", shifts.add(0, 0))?;
-    Ok(())
+    let shifts = shifts_of(&[(1, -1); LIMIT - 1])?;
+    let entries = [
+        ("shifts, 48th label", (i64::MIN, i64::MAX)),
+        ("shifts, 49th label", (0, 0)),
+    ];
+    write_entries(
+        out,
+        shifts,
+        &entries,
+        |shifts, (across, along)| shifts.add(across, along),
+    )
 }
 
 /// Words.
 fn write_words<W: Write>(out: &mut W) -> anyhow::Result<()> {
-    let mut words = Words::new();
-    for _ in 1..LIMIT {
-        words.add(1).context("a word is refused")?;
-    }
-    write_entry(out, "words, 48th label", words.add(u64::MAX))?;
-    write_entry(out, "words, 49th label", words.add(0))?;
-    Ok(())
+    let words = words_of(&[1; LIMIT - 1])?;
+    let entries = [("words, 48th label", u64::MAX), ("words, 49th label", 0)];
+    write_entries(out, words, &entries, Words::add)
 }
 
 /// Writes the lines of all entries.

@@ -24,6 +24,7 @@ pub fn write_closed<W: Write>(out: &mut W) -> anyhow::Result<()> {
         matroid.size(),
         measure.len()
     )?;
+    // By label: the graph and the measure are asked by label, and the label is printed.
     for label in 1..=matroid.size() {
         if let Some((a, b)) = matroid.ends(label) {
             writeln!(

@@ -32,13 +32,7 @@ pub fn write_answers<W: Write>(out: &mut W) -> anyhow::Result<()> {
 fn bases_below<M: Matroid>(matroid: &M, words: u64) -> u64
     ensures { result ≡ length (filter (is_base (M.Matroid.size matroid.now) (M.Matroid.independent matroid.now)) (numbers_below words)) }
 {
-    let mut found: u64 = 0;
-    for set in 0..words {
-        if is_base(matroid, set) {
-            found += 1;
-        }
-    }
-    found
+    (0..words).filter(|set| is_base(matroid, *set)).count() as u64
 }
 
 /// Writes how many bases a walk on the complete graph of so many points hands out.

@@ -37,7 +37,8 @@ pub const TRIANGLE: Rig = Rig {
 const SHIFTS: [(i64, i64); 3] = [(10, 0), (0, 5), (-2, 1)];
 
 /// The graph with these edges.
-// The trial of piles has these lines too; a crate for both would be longer than they are.
+// The trial of piles has a `graph_of` of four lines, by its own `filled`; one in `graphic` would need a contract that says which edge is
+// refused first and why, its proof and an edit.
 pub fn graph_of(points: u8, edges: &[Pair]) -> anyhow::Result<Graphic> {
     let mut graphic = Graphic::new(points).context("the number of points is refused")?;
     for (a, b) in edges {
@@ -49,6 +50,7 @@ pub fn graph_of(points: u8, edges: &[Pair]) -> anyhow::Result<Graphic> {
 /// The complete graph: each two points are joined, those of lower points first.
 pub fn complete(points: u8) -> anyhow::Result<Graphic> {
     let mut graphic = graph_of(points, &[])?;
+    // By point: the pairs are made of the numbers of the points, and there is no list of them.
     for last in 1..=points {
         for first in 1..last {
             graphic.add(first, last).context("a pair is refused")?;

@@ -1,5 +1,5 @@
 //! How sets, shifts, exchanges and views are printed.
-use label_words::labels_of;
+use lines::SetText;
 use measure::Shift;
 use std::fmt;
 use walk::{Exchange, Stop, View};
@@ -9,17 +9,10 @@ use walk::{Exchange, Stop, View};
 // A wrapper, since what is printed are numbers and types of other crates.
 pub struct Shown<T>(pub T);
 
-/// A set: its labels upwards, with nothing between; `none` where there is none.
-// The trial of chain files has these lines too; a crate for both would be longer than they are.
+/// A set, by its labels.
 impl fmt::Display for Shown<u64> {
     fn fmt<W: fmt::Write>(&self, f: &mut fmt::Formatter<W>) -> fmt::Result {
-        if self.0 == 0 {
-            return write!(f, "none");
-        }
-        for label in labels_of(self.0) {
-            write!(f, "{label}")?;
-        }
-        Ok(())
+        write!(f, "{}", SetText(self.0))
     }
 }
 

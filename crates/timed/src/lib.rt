@@ -32,7 +32,8 @@ fn digested(digest: u64, x: Exchange) -> u64 {
 }
 
 /// What each label is worth.
-// The program for described rigs has the same five lines; a crate for them would be longer than they are.
+// The program for described rigs has the same five lines; a public function for both would need a contract on all the shifts, its proof
+// and an edit. By label: what a label is worth is made of its number.
 fn shifts() -> Shifts {
     let mut shifts = Shifts::new();
     for label in 1..=LIMIT as i64 {
