@@ -53,6 +53,7 @@ fn write_partition<W: Write>(out: &mut W) -> anyhow::Result<()> {
 }
 
 /// Columns.
+// As `write_words`, but for its table and values: what the two did alike is in `write_entries`.
 fn write_binary<W: Write>(out: &mut W) -> anyhow::Result<()> {
     let binary = columns_of(&[1; LIMIT - 1])?;
     let entries = [("binary, 48th label", u64::MAX), ("binary, 49th label", 0)];
