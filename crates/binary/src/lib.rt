@@ -11,7 +11,7 @@ use label_words::labels_of;
 pub use matrix::BinaryMatrix;
 
 /// The places of a word, and so the most pivots.
-const PLACES: usize = 64;
+const PLACES: usize = u64::BITS as usize;
 
 /// Reduces `word` by the pivots, from its highest place down. What is left joins them at its highest place; false where nothing is left.
 fn join(pivots: &mut [u64; PLACES], word: u64) -> bool

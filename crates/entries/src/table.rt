@@ -6,7 +6,8 @@ use labels::LIMIT;
 /// A value for each of the labels 1, 2, .. in turn, as they were added.
 #[derive(Drop)]
 pub struct Entries<V> {
-    // An array with its length beside: the library's ArrayVec wants a default of each value, which would ask more of callers.
+    // An array with its length beside: the library's `ArrayVec` wants a default of each value, and an edge has none, since its points are 1 at
+    // least.
     pub(crate) places: [V; LIMIT],
     pub(crate) used: u8,
     ghost whole: { length places ≡ limit },

@@ -11,7 +11,7 @@ mod upwards;
 pub use upwards::{Labels, labels_of};
 
 /// How many labels a word can hold.
-const WIDTH: u8 = 64;
+const WIDTH: u8 = u64::BITS as u8;
 
 /// The word of `label` alone.
 fn word(label: u8) -> u64

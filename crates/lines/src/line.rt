@@ -26,6 +26,7 @@ impl fmt::Display for Line {
 }
 
 /// Writes each label of `labels`, upwards, after a space; a turn for each, however far apart they are.
+// Not one with `SetText`: that has no spaces, and a word for the empty set.
 fn put_labels<W: fmt::Write>(f: &mut fmt::Formatter<W>, labels: u64) -> fmt::Result
     ensures { WritesOnOk W.write_str_gives f.old result (labels_text labels 64) f.new }
 {

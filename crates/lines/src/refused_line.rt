@@ -7,7 +7,7 @@ use std::fmt;
 #[derive(Clone, Copy, Debug)]
 pub struct RefusedLine {
     /// The number that the refusal is known by.
-    // A number and no enum: the line is for the refusals of any reader, and this crate knows none.
+    // A number and no enum: this crate lies below the reader of surveys and does not know its faults.
     pub number: u8,
     /// The row.
     pub row: u32,

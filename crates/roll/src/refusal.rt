@@ -10,7 +10,7 @@ pub enum RollRefusal {
 
 impl RollRefusal {
     /// The number that this refusal is known by.
-    // A number for output alone, by a method that reads better than `From` where it is called: the type is the enum.
+    // A number by a method that reads better than `From` where it is called: the type is the enum.
     pub fn number(self) -> u8
         ensures { result ≡ roll_number self }
     {

@@ -9,6 +9,7 @@ use crate::numerals::{number, shift};
 const COMMA: u8 = b',';
 
 /// The numbers of a row that has the form, before it is known whether they are in range.
+// Not a `Row`: a number that has the form need not fit into the fields of one.
 #[derive(Clone, Copy, Debug, PartialEq, Eq)]
 pub struct Fields {
     pub a: u32,
@@ -28,7 +29,7 @@ pub fn cut(s: &[u8], mark: u8) -> (&[u8], &[u8])
     }
 }
 
-// The fields of four numbers, if all are there.
+// The fields of four numbers, if all are there. A function, since `split_row` would have five ways out, each with an answer of its own.
 fn assembled(
     a: Option<u32>,
     b: Option<u32>,

@@ -22,11 +22,7 @@ pub fn walk_of(text: &[u8]) -> Result<SurveyWalk, Refusal>
 {
     let survey = read(text)?;
     // A lawful survey's graph and shifts are never refused; `?` would add a way to fail.
-    let Ok(graphic) = graphic_of(&survey) else {
-        unreachable()
-    };
-    let Ok(shifts) = shifts_of(&survey) else {
-        unreachable()
-    };
+    let graphic = graphic_of(&survey).unwrap();
+    let shifts = shifts_of(&survey).unwrap();
     Ok(Walk::begin(graphic, Closest, shifts, 0, u64::MAX))
 }

@@ -21,7 +21,8 @@ fn highest(set: u64) -> u8
 }
 
 /// The rule that takes the candidate closest to the label: the highest one. It keeps no state.
-// Not one type with `Furthest`, by a parameter for the end: an alias of such a type is no value, and callers write `Closest`.
+// Not one type with `Furthest` and a parameter for highest or lowest: choice and laws differ, so that each member would match on it, and an
+// alias of such a type is no value, where callers write `Closest`.
 #[derive(Clone, Copy, Debug)]
 pub struct Closest;
 

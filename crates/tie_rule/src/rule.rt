@@ -9,8 +9,7 @@ pub trait TieRule {
     ghost next: { Self → ℕ → ℕ → Self };
 
     /// Told a label and a set, whose labels below that label are the candidates; answers one of them, or 0 if there is none.
-    // No `Option`: the walk asks only where there is a candidate, so it would have a case that never comes; and the laws speak of a
-    // choice as a number.
+    // No `Option`: 0 is no label, so nothing is mixed up, and the walk, which asks only where there is a candidate, would have to open it.
     fn choose(&mut self, label: u8, set: u64) -> u8
         ensures choice { result ≡ choice self.old label set }
         ensures next { self.new ≡ next self.old label set };

@@ -99,6 +99,7 @@ impl<P: Matroid, R: TieRule, M: Measure> Walk<P, R, M> {
     }
 
     /// Advances by one exchange, at the lowest active label that has a candidate; none where the walk is finished.
+    // Not an `Iterator`: its clauses speak of the walk before and after, and other calls come between.
     pub fn advance(&mut self) -> Option<Exchange>
         ensures keeps { Keeps self.old self.new }
         ensures step { step (setting_of P.Matroid R.TieRule M.Measure self.old) (state_of self.old) ≡ (result, state_of self.new) }

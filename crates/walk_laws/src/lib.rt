@@ -9,7 +9,7 @@ ghost use Rattle.std.specs.Prelude.{◌≡◌};
 pub struct Exchange {
     pub high: u8,
     pub low: u8,
-    // A flag and no enum with labels in it: both labels are there either way, and the higher one is asked for most.
+    // A flag and no enum with labels in it: whoever asks wants both labels, the higher one first, and an enum would need a match for that.
     pub came: bool,
 }
 
@@ -21,7 +21,7 @@ pub enum Stop {
 }
 
 /// What a walk holds beside its matroid, tie rule and measure.
-#[derive(Clone, Copy, Debug, PartialEq)]
+#[derive(Clone, Copy, Debug, PartialEq, Eq)]
 pub struct View<V> {
     pub present: u64,
     pub active: u64,

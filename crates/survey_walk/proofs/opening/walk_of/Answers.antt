@@ -1,4 +1,5 @@
-use Rattle.std.proofs.Common.{◌≡◌, length, sym, ap, ◌∙◌, subst, arith}
+use Rattle.std.proofs.Common.{◌≡◌, length, refl, sym, ap, ◌∙◌, subst, arith, Result, Ok, Err, MatchResult, IsOk}
+use Rattle.std.proofs.lemmas.Result.{MatchResult-at_ok}
 use lib.ListN.{length-map}
 use Rattle.labels.specs.Sets.{full}
 use Rattle.graphic.specs.Edges.{graph}
@@ -15,16 +16,26 @@ use Rattle.survey_walk.proofs.Entries.{full_within}
 use Rattle.survey_walk.specs.Opened.{setting_for, survey_setting, closest}
 use Rattle.survey_walk.proofs.opening.walk_of.Goals as goal
 
-pub unreachable-requires : goal.unreachable-requires
-unreachable-requires c =
-    c.in_default.ensures ((c.in_ok-survey.ensures.accepts _ (sheet_of c.in_ok-survey.survey)).0 (sym c.in_ok-survey.ensures.is)).0
+-- what cannot be refused is made
+is_made : {A E : Type 0} (r : Result A E) (P : A → Type 0) (Q : E → Type 0) → MatchResult r P Q → ((e : E) → Q e → ⊥) → IsOk r
+is_made (Ok x) P Q m h = refl
+is_made (Err e) P Q m h = absurd (h e m)
+
+pub unwrap-graphic-requires : goal.unwrap-graphic-requires
+unwrap-graphic-requires c =
+    let lawful = ((c.in_ok-survey.ensures.accepts _ (sheet_of c.in_ok-survey.survey)).0 (sym c.in_ok-survey.ensures.is)).0 in
+    is_made c.graphic_of.result _ _ c.graphic_of.ensures (λ _ never. never lawful)
+
+pub unwrap-shifts-requires : goal.unwrap-shifts-requires
+unwrap-shifts-requires c = is_made c.shifts_of.result _ _ c.shifts_of.ensures (λ _ never. never)
 
 pub returns : goal.returns
 returns c =
     let told = c.begin.ensures in let read = c.in_ok-survey.ensures in let s = sheet_of c.in_ok-survey.survey in
     let accepted = (read.accepts c.args.text.now s).0 (sym read.is) in
-    let graph_is = c.in-Ok.ensures in let shifts-are = c.in-Ok-shifts_of.ensures in
-    let same : setting_for (graph c.in-Ok.graphic) (entries_of c.in-Ok-shifts_of.shifts) ≡ survey_setting s = λ i. setting_for (graph_is.1 i) (shifts-are i) in
+    let graph_is = MatchResult-at_ok _ _ _ c.unwrap-graphic.ensures c.graphic_of.ensures in
+    let shifts-are = MatchResult-at_ok _ _ _ c.unwrap-shifts.ensures c.shifts_of.ensures in
+    let same : setting_for (graph c.unwrap-graphic.result) (entries_of c.unwrap-shifts.result) ≡ survey_setting s = λ i. setting_for (graph_is.1 i) (shifts-are i) in
     record {
       sheet = s;
       lawful = accepted.0;
