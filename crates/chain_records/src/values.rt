@@ -1,7 +1,8 @@
 //! What a reader of records hands out.
 ghost use Rattle.chain_lists.specs.Faults.{fault_number};
+ghost use Rattle.chain_lists.specs.Lists.{kind_length};
 ghost use Rattle.chain_records.specs.Records.{fault_of, spot_of};
-ghost use Rattle.std.specs.Prelude.{◌≡◌};
+ghost use Rattle.std.specs.Prelude.{◌≡◌, ◌+◌, ◌^◌, ◌<◌, length};
 
 use chain_lists::{Kind, Spot};
 
@@ -14,6 +15,8 @@ pub struct Record<'a> {
     /// Those after the length and the kind.
     pub body: &'a [u8],
     pub spot: Spot,
+    ghost shaped: { length body.now + 2 ≡ kind_length kind },
+    ghost few: { spot.before + 2 < 2 ^ 64 },
 }
 
 /// What can be wrong with the frame of a record.
