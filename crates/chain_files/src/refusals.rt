@@ -1,5 +1,5 @@
 //! What a writer refuses, and that it goes on as if nothing had been.
-use crate::trip::{ROOM, front, write_reading};
+use crate::trip::{ROOM, write_reading};
 use chain_lists::{Swap, Total};
 use chain_writer::{Open, WriterRefusal, begin};
 use std::io;
@@ -116,9 +116,9 @@ fn write_stubborn<W: Write>(out: &mut W, buffer: &mut [u8]) -> io::Result<()> {
     write_answer(out, totals.total(Total::Shift(i64::MIN, i64::MAX)))?;
     write!(out, "shift total again: ")?;
     write_answer(out, totals.total(Total::Shift(0, 0)))?;
-    let length = totals.end().length;
-    writeln!(out, "{length} bytes")?;
-    write_reading(out, "read back", front(buffer, length))
+    let written = totals.end();
+    writeln!(out, "{} bytes", written.length)?;
+    write_reading(out, "read back", written.file())
 }
 
 /// Writes the lines of all refusals.

@@ -129,8 +129,8 @@ pub fn write_reading<W: Write>(out: &mut W, name: &str, file: &[u8]) -> io::Resu
     write_verdict(out, file)
 }
 
-/// Writes the list of a rig's walk into the buffer, and answers the length of the file.
-fn list_of(rig: Rig, totals: bool, buffer: &mut [u8]) -> anyhow::Result<usize> {
+/// Writes the list of a rig's walk into the buffer.
+fn list_of<'a>(rig: Rig, totals: bool, buffer: &'a mut [u8]) -> anyhow::Result<Written<'a>> {
     let begun = walk_of(rig.text).ok().context("the survey is refused")?;
     let graphic = graph_of(begun);
     let n = graphic.size();
@@ -142,20 +142,20 @@ fn list_of(rig: Rig, totals: bool, buffer: &mut [u8]) -> anyhow::Result<usize> {
     let mut walk = walk_of(rig.text).ok().context("the survey is refused")?;
     let written = write_list(&mut walk, n, lamp, buffer).ok();
     let _ = graph_of(walk);
-    Ok(written.context("the list is refused")?.length)
+    written.context("the list is refused")
 }
 
 /// Writes what became of a rig's list, with or without totals.
 fn write_trip<W: Write>(out: &mut W, rig: Rig, totals: bool) -> anyhow::Result<()> {
     // A fixed buffer, as a writer's caller has it.
     let mut buffer = [0u8; ROOM];
-    let length = list_of(rig, totals, &mut buffer)?;
-    writeln!(out, "{}: {length} bytes", rig.name)?;
-    Ok(write_reading(out, rig.name, front(&buffer, length))?)
+    let written = list_of(rig, totals, &mut buffer)?;
+    writeln!(out, "{}: {} bytes", rig.name, written.length)?;
+    Ok(write_reading(out, rig.name, written.file())?)
 }
 
-/// The triangle's list with both totals, and how long the file is.
-pub fn triangle(buffer: &mut [u8]) -> anyhow::Result<usize> {
+/// Writes the triangle's list with both totals into the buffer.
+pub fn triangle<'a>(buffer: &'a mut [u8]) -> anyhow::Result<Written<'a>> {
     list_of(TRIANGLE, true, buffer)
 }
 

@@ -71,10 +71,20 @@ impl<'a, S: Drop> Writer<'a, S> {
     {
         let count = self.count;
         self.put_record(Kind::End, &count.to_le_bytes());
+        let length = self.at.min(self.out.len());
         Written {
             out: self.out,
-            length: self.at,
+            length,
         }
+    }
+}
+
+impl<'a> Written<'a> {
+    /// The bytes of the file.
+    pub fn file(&self) -> &[u8]
+        ensures { result.now ≡ take self.now.length self.now.out.now }
+    {
+        &self.out[..self.length]
     }
 }
 
