@@ -17,6 +17,7 @@ pub(crate) fn word_at(body: &[u8], i: usize) -> u64
 }
 
 /// The total in a shift total's record.
+// No `TryFrom` for this and `lamp_in`: `judge` has told the kind already, so that nothing is left to fail.
 pub(crate) fn shift_in(found: Record<'_>) -> Total
     requires { found.kind ≡ ShiftTotal }
     ensures kind { total_kind result ≡ ShiftTotal }

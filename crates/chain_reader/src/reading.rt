@@ -21,6 +21,7 @@ impl<'a> ListReader<'a> {
     }
 
     /// The next record and what it says; none, if the file ended and was lawful. A reader that finds a fault stays where it is.
+    // No `Iterator`: a fault is answered as often as it is asked for, so that one over results would not end there.
     pub fn next(&mut self) -> Result<Option<Part<'a>>, ListFault>
         ensures file { file_read self.new ≡ file_read self.old }
         ensures reads { (b : Beginning) → HasRead self.old b → MatchResult result

@@ -20,8 +20,8 @@ pub struct Record<'a> {
 }
 
 /// What can be wrong with the frame of a record.
+// A spot in each variant: a struct of kind and spot is a type more.
 #[derive(Clone, Copy, Debug, PartialEq, Eq)]
-// A spot in each variant: a struct of kind and spot is a type more, and `fault_of` and `spot_of` in specs go by the variants.
 pub enum RecordFault {
     /// The length is cut off, or fewer bytes are left than it states.
     CutOff(Spot),
