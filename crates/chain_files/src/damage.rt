@@ -1,5 +1,5 @@
 //! A file that is cut off or changed at each of its bytes.
-use crate::trip::{ROOM, front, triangle, write_verdict};
+use crate::trip::{ROOM, triangle, write_verdict};
 use chain_writer::Written;
 use std::io;
 use std::io::Write;
@@ -28,6 +28,11 @@ fn write_changed<W: Write>(out: &mut W, file: &mut [u8], change: u8) -> io::Resu
         file[i] = was;
     }
     Ok(())
+}
+
+/// The first `n` bytes, or all if there are fewer.
+fn front(bytes: &[u8], n: usize) -> &[u8] {
+    &bytes[..n.min(bytes.len())]
 }
 
 /// Writes the lines of all damages.
