@@ -14,6 +14,7 @@ const MOST_INPUT: usize = 4096;
 const ROOM: usize = MOST_INPUT + 1;
 
 /// Writes what a record says.
+// A function, no `Display`: `Entry` is of another crate, and a wrapper for this one call is no plainer.
 fn write_entry<W: Write>(out: &mut W, entry: Entry) -> io::Result<()> {
     match entry {
         Entry::Head(n, start) => writeln!(out, "head {n} {start}"),
@@ -26,10 +27,7 @@ fn write_entry<W: Write>(out: &mut W, entry: Entry) -> io::Result<()> {
 /// Writes a line for each record, up to the first that is at fault.
 fn write_records<W: Write>(out: &mut W, file: &[u8]) -> io::Result<()> {
     let mut reader = ListReader::new(file);
-    for _ in 0..file.len() {
-        let Ok(Some(part)) = reader.next() else {
-            break;
-        };
+    while let Ok(Some(part)) = reader.next() {
         let byte = part.record.spot.byte;
         let length = part.record.bytes.len();
         write!(out, "{byte} {length} ")?;

@@ -1,5 +1,6 @@
 //! A file that is cut off or changed at each of its bytes.
-use crate::trip::{ROOM, front, triangle, write_verdict};
+use crate::trip::{ROOM, triangle, write_verdict};
+use chain_writer::Written;
 use std::io;
 use std::io::Write;
 
@@ -29,18 +30,23 @@ fn write_changed<W: Write>(out: &mut W, file: &mut [u8], change: u8) -> io::Resu
     Ok(())
 }
 
+/// The first `n` bytes, or all if there are fewer.
+fn front(bytes: &[u8], n: usize) -> &[u8] {
+    &bytes[..n.min(bytes.len())]
+}
+
 /// Writes the lines of all damages.
 pub fn write_damages<W: Write>(out: &mut W) -> anyhow::Result<()> {
     // A fixed buffer, as a writer's caller has it.
     let mut buffer = [0u8; ROOM];
-    let length = triangle(&mut buffer)?.min(ROOM);
-    write_cut(out, &buffer[..length])?;
+    let Written { out: bytes, length } = triangle(&mut buffer)?;
+    write_cut(out, &bytes[..length])?;
     write!(out, "whole: ")?;
-    write_verdict(out, &buffer[..length])?;
+    write_verdict(out, &bytes[..length])?;
     write!(out, "a byte more: ")?;
-    write_verdict(out, front(&buffer, length + 1))?;
+    write_verdict(out, front(bytes, length + 1))?;
     for change in CHANGES {
-        write_changed(out, &mut buffer[..length], change)?;
+        write_changed(out, &mut bytes[..length], change)?;
     }
     Ok(())
 }

@@ -1,5 +1,6 @@
 //! What a writer refuses, and that it goes on as if nothing had been.
-use crate::trip::{ROOM, front, write_reading};
+use crate::trip::{ROOM, write_reading};
+use anyhow::anyhow;
 use chain_lists::{Swap, Total};
 use chain_writer::{Open, WriterRefusal, begin};
 use std::io;
@@ -73,6 +74,14 @@ const SWAPS: [Swap; 8] = [
     Swap { high: 3, low: 2 },
 ];
 
+/// The room of each file that is written with refusals on the way.
+const ROOMS: [usize; 4] = [65, 73, 80, 81];
+
+/// Writes the number of a refusal.
+fn write_refused<W: Write>(out: &mut W, why: WriterRefusal) -> io::Result<()> {
+    writeln!(out, "refused {}", why.number())
+}
+
 /// Writes whether a file was begun.
 fn write_beginning<W: Write>(out: &mut W, b: Beginning) -> io::Result<()> {
     // A fixed buffer, of which each beginning gets a part.
@@ -81,7 +90,7 @@ fn write_beginning<W: Write>(out: &mut W, b: Beginning) -> io::Result<()> {
     write!(out, "{} labels, start {}, room {room}: ", b.n, b.start)?;
     match begin(&mut buffer[..room], b.n, b.start) {
         Ok(_) => writeln!(out, "begun"),
-        Err(rejected) => writeln!(out, "refused {}", rejected.why.number()),
+        Err(rejected) => write_refused(out, rejected.why),
     }
 }
 
@@ -89,7 +98,7 @@ fn write_beginning<W: Write>(out: &mut W, b: Beginning) -> io::Result<()> {
 fn write_answer<W: Write>(out: &mut W, answer: Result<(), WriterRefusal>) -> io::Result<()> {
     match answer {
         Ok(()) => writeln!(out, "written"),
-        Err(refusal) => writeln!(out, "refused {}", refusal.number()),
+        Err(why) => write_refused(out, why),
     }
 }
 
@@ -103,10 +112,11 @@ fn write_swaps<W: Write>(out: &mut W, file: &mut Open) -> io::Result<()> {
 }
 
 /// Writes a file with refusals on the way, and what it is read as.
-fn write_stubborn<W: Write>(out: &mut W, buffer: &mut [u8]) -> io::Result<()> {
+fn write_stubborn<W: Write>(out: &mut W, buffer: &mut [u8]) -> anyhow::Result<()> {
     writeln!(out, "room {}", buffer.len())?;
-    let Ok(mut file) = begin(buffer, 3, 0b011) else {
-        return Ok(());
+    let mut file = match begin(buffer, 3, 0b011) {
+        Ok(file) => file,
+        Err(rejected) => return Err(anyhow!("no file is begun: {}", rejected.why.number())),
     };
     write_swaps(out, &mut file)?;
     let mut totals = file.total(Total::Lamp(u64::MAX));
@@ -116,9 +126,9 @@ fn write_stubborn<W: Write>(out: &mut W, buffer: &mut [u8]) -> io::Result<()> {
     write_answer(out, totals.total(Total::Shift(i64::MIN, i64::MAX)))?;
     write!(out, "shift total again: ")?;
     write_answer(out, totals.total(Total::Shift(0, 0)))?;
-    let length = totals.end().length;
-    writeln!(out, "{length} bytes")?;
-    write_reading(out, "read back", front(buffer, length))
+    let written = totals.end();
+    writeln!(out, "{} bytes", written.length)?;
+    Ok(write_reading(out, "read back", written.file())?)
 }
 
 /// Writes the lines of all refusals.
@@ -126,8 +136,8 @@ pub fn write_refusals<W: Write>(out: &mut W) -> anyhow::Result<()> {
     for b in &BEGINNINGS {
         write_beginning(out, *b)?;
     }
-    write_stubborn(out, &mut [0xaau8; 65])?;
-    write_stubborn(out, &mut [0xaau8; 73])?;
-    write_stubborn(out, &mut [0xaau8; 80])?;
-    Ok(write_stubborn(out, &mut [0xaau8; 81])?)
+    for room in ROOMS {
+        write_stubborn(out, &mut [0xaau8; ROOM][..room.min(ROOM)])?;
+    }
+    Ok(())
 }

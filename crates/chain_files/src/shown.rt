@@ -5,8 +5,8 @@ use lines::SetText;
 use std::fmt;
 
 /// A value as it is printed here.
+// A wrapper: this text is this program's alone; at the type it would be public, with a clause and an edit.
 #[derive(Clone, Copy, Debug)]
-// A wrapper, since what is printed are types of another crate.
 pub struct Shown<T>(pub T);
 
 /// What a record says.

@@ -1,6 +1,6 @@
 //! The list of a walk, written and read back.
 use crate::shown::Shown;
-use anyhow::Context;
+use anyhow::{Context, anyhow};
 use chain_lists::{Swap, Total};
 use chain_reader::{ListReader, read};
 use chain_writer::{Open, WriterRefusal, Written, begin};
@@ -15,9 +15,6 @@ use walk::Walk;
 
 /// How many bytes the buffers here have.
 pub const ROOM: usize = 512;
-
-/// More steps than any walk here has.
-const STEPS: u32 = 1000;
 
 /// A survey, and what it is called.
 #[derive(Clone, Copy, Debug, PartialEq, Eq)]
@@ -40,11 +37,10 @@ const TWO_TRIANGLES: Rig = Rig {
 const WORDS: [u64; 5] = [0b01, 0b10, 0b11, 0b100, 0b1000];
 
 /// Adds all further exchanges of a walk to a file.
+// Beside that of `described`, which stops after a number of steps and tells how many there were before a refusal.
 fn add_exchanges(walk: &mut SurveyWalk, file: &mut Open) -> Result<(), WriterRefusal> {
-    for _ in 0..STEPS {
-        let Some(x) = walk.advance() else {
-            break;
-        };
+    while let Some(x) = walk.advance() {
+        // By hand, as the total below: `walk` and `measure` know nothing of `chain_lists`, and a program cannot write `From` for two types of others.
         file.exchange(Swap {
             high: x.high,
             low: x.low,
@@ -78,22 +74,24 @@ fn lamp_total(graphic: Graphic) -> anyhow::Result<u64> {
         words.add(*word).context("a word is refused")?;
     }
     let mut walk = Walk::begin(graphic, Closest, words, 0, u64::MAX);
-    for _ in 0..STEPS {
-        if walk.advance().is_none() {
-            break;
-        }
-    }
+    while walk.advance().is_some() {}
     Ok(walk.close().view.total.bits)
+}
+
+/// Begins the walk over a rig's survey.
+fn walk_over(rig: Rig) -> anyhow::Result<SurveyWalk> {
+    walk_of(rig.text).map_err(|refusal| {
+        anyhow!(
+            "the survey is refused: {} in row {}",
+            refusal.fault.number(),
+            refusal.row
+        )
+    })
 }
 
 /// Ends a walk, and gives its graph back.
 fn graph_of(walk: SurveyWalk) -> Graphic {
     walk.close().matroid
-}
-
-/// The first `n` bytes, or all if there are fewer.
-pub fn front(bytes: &[u8], n: usize) -> &[u8] {
-    &bytes[..n.min(bytes.len())]
 }
 
 /// Writes what a file is read as.
@@ -107,55 +105,49 @@ pub fn write_verdict<W: Write>(out: &mut W, file: &[u8]) -> io::Result<()> {
 /// Writes what each record of a file says, then the list in short.
 pub fn write_reading<W: Write>(out: &mut W, name: &str, file: &[u8]) -> io::Result<()> {
     let mut reader = ListReader::new(file);
-    for _ in 0..STEPS {
-        match reader.next() {
-            Ok(Some(part)) => {
-                let byte = part.record.spot.byte;
-                let length = part.record.bytes.len();
-                writeln!(
-                    out,
-                    "{name}, byte {byte}, {length} bytes: {}",
-                    Shown(part.entry)
-                )?;
-            }
-            Ok(None) => break,
-            Err(fault) => {
-                writeln!(out, "{name}: {fault}")?;
-                break;
-            }
-        }
+    while let Ok(Some(part)) = reader.next() {
+        let byte = part.record.spot.byte;
+        let length = part.record.bytes.len();
+        writeln!(
+            out,
+            "{name}, byte {byte}, {length} bytes: {}",
+            Shown(part.entry)
+        )?;
+    }
+    // A reader that finds a fault finds it again when it is asked again.
+    if let Err(fault) = reader.next() {
+        writeln!(out, "{name}: {fault}")?;
     }
     write!(out, "{name}: ")?;
     write_verdict(out, file)
 }
 
-/// Writes the list of a rig's walk into the buffer, and answers the length of the file.
-fn list_of(rig: Rig, totals: bool, buffer: &mut [u8]) -> anyhow::Result<usize> {
-    let begun = walk_of(rig.text).ok().context("the survey is refused")?;
-    let graphic = graph_of(begun);
+/// Writes the list of a rig's walk into the buffer.
+fn list_of<'a>(rig: Rig, totals: bool, buffer: &'a mut [u8]) -> anyhow::Result<Written<'a>> {
+    let graphic = graph_of(walk_over(rig)?);
     let n = graphic.size();
     let lamp = if totals {
         Some(lamp_total(graphic)?)
     } else {
         None
     };
-    let mut walk = walk_of(rig.text).ok().context("the survey is refused")?;
-    let written = write_list(&mut walk, n, lamp, buffer).ok();
+    let mut walk = walk_over(rig)?;
+    let written = write_list(&mut walk, n, lamp, buffer);
     let _ = graph_of(walk);
-    Ok(written.context("the list is refused")?.length)
+    written.map_err(|why| anyhow!("the list is refused: {}", why.number()))
 }
 
 /// Writes what became of a rig's list, with or without totals.
 fn write_trip<W: Write>(out: &mut W, rig: Rig, totals: bool) -> anyhow::Result<()> {
     // A fixed buffer, as a writer's caller has it.
     let mut buffer = [0u8; ROOM];
-    let length = list_of(rig, totals, &mut buffer)?;
-    writeln!(out, "{}: {length} bytes", rig.name)?;
-    Ok(write_reading(out, rig.name, front(&buffer, length))?)
+    let written = list_of(rig, totals, &mut buffer)?;
+    writeln!(out, "{}: {} bytes", rig.name, written.length)?;
+    Ok(write_reading(out, rig.name, written.file())?)
 }
 
-/// The triangle's list with both totals, and how long the file is.
-pub fn triangle(buffer: &mut [u8]) -> anyhow::Result<usize> {
+/// Writes the triangle's list with both totals into the buffer.
+pub fn triangle<'a>(buffer: &'a mut [u8]) -> anyhow::Result<Written<'a>> {
     list_of(TRIANGLE, true, buffer)
 }
 

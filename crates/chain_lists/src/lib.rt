@@ -12,6 +12,9 @@ use labels::LIMIT;
 use std::error::Error;
 use std::fmt;
 
+/// How many bytes of a record stand before its body: four of length, two of kind.
+pub const FRAME: usize = 6;
+
 /// What a record of a chain file says.
 #[derive(Clone, Copy, Debug, PartialEq, Eq)]
 pub enum Kind {
@@ -37,6 +40,7 @@ pub struct Swap {
 #[derive(Clone, Copy, Debug, PartialEq, Eq)]
 pub enum Total {
     /// How far across and how far along.
+    // Two numbers, no `Shift` of `measure`: this crate knows no measure.
     Shift(i64, i64),
     /// Which lamps burn.
     Lamp(u64),
@@ -179,6 +183,7 @@ impl TotalKinds {
 }
 
 /// Whether 1 to `n` are labels, and no label of `start` is above them.
+// Two numbers, as they stand in a record: a struct of both would be made only to be taken apart.
 pub fn is_lawful_head(n: u8, start: u64) -> bool
     ensures { result ≡ lawful_head n start }
 {

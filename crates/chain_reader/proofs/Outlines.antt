@@ -1,18 +1,17 @@
 -- A list in short, record by record.
-use Rattle.std.proofs.Common.{◌≡◌, ℕ, ◌<◌, false, List, [], ◌∷◌, ◌++◌, length, ℤ, Some, sym, refl, ap, ◌∙◌, subst, arith}
+use Rattle.std.proofs.Common.{◌≡◌, ℕ, false, List, [], ◌∷◌, ◌++◌, ℤ, Some, sym, refl, ◌∙◌, subst}
 use borrow.Author.Tests.{clash}
-use Rattle.std.proofs.lemmas.List.{length-append}
 use Rattle.chain_lists.specs.declared.Kind.TheVariants.{ShiftTotal, LampTotal}
 use Rattle.chain_lists.specs.declared.Swap.{Swap}
 use Rattle.chain_lists.specs.declared.Total.{Total}
 use Rattle.chain_lists.specs.declared.Total.TheVariants.{Shift, Lamp}
 use Rattle.chain_lists.specs.Lists.{ChainList, Holds, stands}
 use Rattle.chain_lists.specs.Faults.{Beginning, nothing, so_far, ended}
-use Rattle.chain_lists.proofs.Growth.{last_set_more, length_head_written, length_swap_written, length_shift_written, length_lamp_written, length_end_written}
+use Rattle.chain_lists.proofs.Growth.{last_set_more}
 use Rattle.chain_reader.specs.declared.values.Entry.{Entry}
-use Rattle.chain_reader.specs.declared.values.Entry.TheVariants.{Head, Exchange, Total as Summed, End}
+use Rattle.chain_reader.specs.declared.values.Entry.TheVariants.{Exchange, Total as Summed}
 use Rattle.chain_reader.specs.declared.values.Summary.{Summary}
-use Rattle.chain_reader.specs.Reading.{Finished, Summarises, SummaryAfter, Told, entry_written, extended, shift_among, lamp_among}
+use Rattle.chain_reader.specs.Reading.{Finished, Summarises, SummaryAfter, Told, extended, shift_among, lamp_among}
 
 -- ---- a total more
 
@@ -76,21 +75,6 @@ lamp_adds b s t w is =
     go (so_far c) o told =
         record { labels = o.labels; first = o.first; latest = o.latest; shifts = o.shifts ∙ sym (shift_kept c.totals w); lamps = sym (lamp_first c.totals w told) }
     go (ended c) o told = absurd told
-
--- no record is empty
-pub entry_long : (e : Entry) → 0 < length (entry_written e)
-entry_long (Head n s) = omega (arith, length_head_written n s)
-entry_long (Exchange x t) = omega (arith, length_swap_written x)
-entry_long (Summed (Shift a b)) = omega (arith, length_shift_written a b)
-entry_long (Summed (Lamp w)) = omega (arith, length_lamp_written w)
-entry_long (End k) = omega (arith, length_end_written k)
-
--- what is left gets shorter
-pub left_less
-    : (file front left file' front' left' w : List ℕ) → file ≡ front ++ left → file' ≡ front' ++ left' → file' ≡ file → front' ≡ front ++ w
-    → 0 < length w → length left' < length left
-left_less file front left file' front' left' w e e' same grown long =
-    omega (arith, ap length e ∙ length-append front left, ap length e' ∙ length-append front' left', ap length same, ap length grown ∙ length-append front w, long)
 
 -- at the end
 pub finish

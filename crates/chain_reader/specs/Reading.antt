@@ -90,6 +90,10 @@ end_of b = record { byte = length (bytes_of b); before = swaps_in b }
 abbrev pub file_read : ListReader → List ℕ
 file_read r = file_of r.records
 
+-- what is left of it
+abbrev pub unread : ListReader → List ℕ
+unread r = left_of r.records
+
 -- a reader has read the lawful beginning b of its file
 pub record HasRead (r : ListReader) (b : Beginning) : Type 0 where
   pub lawful : LawfulBeginning b

@@ -1,7 +1,7 @@
 //! What a record says at a stage, or what is wrong with it.
-ghost use Rattle.std.specs.Prelude.{◌≡◌, ◌+◌, ◌^◌, ◌<◌, List, ℕ, length};
+ghost use Rattle.std.specs.Prelude.{◌≡◌, List, ℕ};
 ghost use Rattle.chain_lists.specs.Faults.{Beginning, nothing, so_far};
-ghost use Rattle.chain_lists.specs.Lists.{ChainList, Fitting, framed, kind_length, total_kind, total_written};
+ghost use Rattle.chain_lists.specs.Lists.{ChainList, Fitting, framed, total_kind, total_written};
 ghost use Rattle.chain_lists.specs.declared.Kind.TheVariants.{End, Exchange, Head};
 ghost use Rattle.chain_reader.specs.Reading.{Judged, Known};
 ghost use Rattle.chain_reader.specs.declared.states.Stage.TheVariants.{SoFar};
@@ -20,7 +20,7 @@ pub(crate) struct Step {
 }
 
 fn head(found: Record<'_>) -> Result<Step, ListFault>
-    requires { length found.body.now + 2 ≡ kind_length Head }
+    requires { found.kind ≡ Head }
     ensures { Judged nothing Head found.entry.body.now found.entry.spot result }
 {
     let n = found.body[0];
@@ -39,8 +39,9 @@ fn head(found: Record<'_>) -> Result<Step, ListFault>
 }
 
 impl Progress {
+    // `Known` is a premise here and below: the beginning that was read is no value of the code, so no type can hold it.
     fn exchange(self, found: Record<'_>) -> Result<Step, ListFault>
-        requires { (length found.body.now + 2 ≡ kind_length Exchange) × (found.spot.before + 2 < 2 ^ 64) }
+        requires { found.kind ≡ Exchange }
         ensures { (c : ChainList) → Known (so_far c) (SoFar self) found.entry.spot
             → Judged (so_far c) Exchange found.entry.body.now found.entry.spot result }
     {
@@ -80,7 +81,7 @@ impl Progress {
 }
 
 fn end(found: Record<'_>) -> Result<Step, ListFault>
-    requires { (length found.body.now + 2 ≡ kind_length End) × (found.spot.before + 2 < 2 ^ 64) }
+    requires { found.kind ≡ End }
     ensures { (c : ChainList) (p : Progress) → Known (so_far c) (SoFar p) found.entry.spot
         → Judged (so_far c) End found.entry.body.now found.entry.spot result }
 {
@@ -96,14 +97,13 @@ fn end(found: Record<'_>) -> Result<Step, ListFault>
 
 /// What a record says at this stage.
 pub(crate) fn judge(stage: Stage, found: Record<'_>) -> Result<Step, ListFault>
-    requires { (length found.body.now + 2 ≡ kind_length found.kind) × (found.spot.before + 2 < 2 ^ 64) }
     ensures { (b : Beginning) → Known b stage found.entry.spot → Judged b found.entry.kind found.entry.body.now found.entry.spot result }
 {
     match (stage, found.kind) {
         (Stage::Nothing, Kind::Head) => head(found),
         (Stage::SoFar(p), Kind::Exchange) => p.exchange(found),
-        (Stage::SoFar(p), Kind::ShiftTotal) => p.total(shift_in(found.body), found.spot),
-        (Stage::SoFar(p), Kind::LampTotal) => p.total(lamp_in(found.body), found.spot),
+        (Stage::SoFar(p), Kind::ShiftTotal) => p.total(shift_in(found), found.spot),
+        (Stage::SoFar(p), Kind::LampTotal) => p.total(lamp_in(found), found.spot),
         (Stage::SoFar(_), Kind::End) => end(found),
         _ => Err(ListFault::OutOfOrder(found.spot)),
     }

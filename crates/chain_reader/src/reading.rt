@@ -1,7 +1,7 @@
 //! The calls of a reader of lists.
 ghost use Rattle.chain_lists.specs.Faults.{Beginning, Refused, bytes_of, nothing};
-ghost use Rattle.chain_reader.specs.Reading.{Finished, HasRead, Told, end_of, entry_written, extended, fault_of, file_read, spot_of};
-ghost use Rattle.std.specs.Prelude.{◌≡◌, ◌++◌, MatchOption, MatchResult};
+ghost use Rattle.chain_reader.specs.Reading.{Finished, HasRead, Told, end_of, entry_written, extended, fault_of, file_read, spot_of, unread};
+ghost use Rattle.std.specs.Prelude.{◌≡◌, ◌++◌, ◌<◌, length, IfOk, IfSome, MatchOption, MatchResult};
 
 use crate::judging::judge;
 use crate::states::{ListReader, Stage};
@@ -21,6 +21,7 @@ impl<'a> ListReader<'a> {
     }
 
     /// The next record and what it says; none, if the file ended and was lawful. A reader that finds a fault stays where it is.
+    // No `Iterator`: a fault is answered as often as it is asked for, so that one over results would not end there.
     pub fn next(&mut self) -> Result<Option<Part<'a>>, ListFault>
         ensures file { file_read self.new ≡ file_read self.old }
         ensures reads { (b : Beginning) → HasRead self.old b → MatchResult result
@@ -32,6 +33,7 @@ impl<'a> ListReader<'a> {
             × (bytes_of (extended b x.entry) ≡ bytes_of b ++ x.record.bytes.now)
             × (x.record.spot ≡ end_of b)))
             (λ e. Refused (file_read self.old) (fault_of e) (spot_of e) × HasRead self.new b) }
+        ensures shorter { IfOk result (λ o. IfSome o (λ _. length (unread self.new) < length (unread self.old))) }
     {
         if let Stage::Ended = self.stage {
             return if self.records.is_empty() {

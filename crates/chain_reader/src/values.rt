@@ -46,8 +46,8 @@ pub struct Summary {
 }
 
 /// What can be wrong with a file.
-#[derive(Clone, Copy, Debug, PartialEq, Eq)]
 // A spot in each variant but `Record`: its fault is held whole and has one, so that a spot beside a kind would stand there twice.
+#[derive(Clone, Copy, Debug, PartialEq, Eq)]
 pub enum ListFault {
     /// A frame is at fault.
     Record(RecordFault),

@@ -8,9 +8,6 @@ use chain_lists::Kind;
 /// How many bytes of a record state its length.
 pub(crate) const LENGTH_SIZE: usize = 4;
 
-/// How many bytes of a record stand before its body.
-pub(crate) const FRAME: usize = 6;
-
 /// Whether the first record of `rest` is all there.
 pub(crate) fn is_complete(rest: &[u8]) -> bool
     ensures { result ≡ complete rest.now }

@@ -4,10 +4,10 @@ ghost use Rattle.chain_lists.specs.Faults.{Beginning, record_fault};
 ghost use Rattle.chain_lists.specs.Lists.{framed, kind_length};
 ghost use Rattle.chain_records.specs.Records.{behind, exchanges_in, fault_of, file_of, left_of, place_of, spot_of};
 
-use crate::framing::{FRAME, LENGTH_SIZE, is_complete, kind_of};
+use crate::framing::{LENGTH_SIZE, is_complete, kind_of};
 use crate::records::Records;
 use crate::values::{Record, RecordFault};
-use chain_lists::{Kind, Spot};
+use chain_lists::{FRAME, Kind, Spot};
 
 // How many exchanges a record of this kind is.
 fn exchanges_of(kind: Kind) -> u64
@@ -59,6 +59,7 @@ impl<'a> Records<'a> {
     }
 
     /// The next record, or none if no byte is left. A reader that finds a fault stays where it is.
+    // No `Iterator`: a fault is answered as often as it is asked for, so that one over results would not end there.
     pub fn next(&mut self) -> Result<Option<Record<'a>>, RecordFault>
         ensures file { file_of self.new ≡ file_of self.old }
         ensures cases { MatchResult result

@@ -1,7 +1,8 @@
 //! What a reader of records hands out.
 ghost use Rattle.chain_lists.specs.Faults.{fault_number};
+ghost use Rattle.chain_lists.specs.Lists.{kind_length};
 ghost use Rattle.chain_records.specs.Records.{fault_of, spot_of};
-ghost use Rattle.std.specs.Prelude.{◌≡◌};
+ghost use Rattle.std.specs.Prelude.{◌≡◌, ◌+◌, ◌^◌, ◌<◌, length};
 
 use chain_lists::{Kind, Spot};
 
@@ -14,11 +15,13 @@ pub struct Record<'a> {
     /// Those after the length and the kind.
     pub body: &'a [u8],
     pub spot: Spot,
+    ghost shaped: { length body.now + 2 ≡ kind_length kind },
+    ghost few: { spot.before + 2 < 2 ^ 64 },
 }
 
 /// What can be wrong with the frame of a record.
+// A spot in each variant: a struct of kind and spot is a type more.
 #[derive(Clone, Copy, Debug, PartialEq, Eq)]
-// A spot in each variant: a struct of kind and spot is a type more, and `fault_of` and `spot_of` in specs go by the variants.
 pub enum RecordFault {
     /// The length is cut off, or fewer bytes are left than it states.
     CutOff(Spot),

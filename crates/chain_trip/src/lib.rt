@@ -22,10 +22,5 @@ pub fn trip(buffer: &mut [u8], n: u8, start: u64, swap: Swap, word: u64) -> Opti
     };
     file.exchange(swap).ok()?;
     let written = file.total(Total::Lamp(word)).end();
-    let length = written.length;
-    let out: &[u8] = written.out;
-    if length > out.len() {
-        return None;
-    }
-    read(&out[..length]).ok()
+    read(written.file()).ok()
 }

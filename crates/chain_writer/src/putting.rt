@@ -6,10 +6,7 @@ ghost use Rattle.std.specs.Int.{w64};
 ghost use Rattle.std.proofs.Common.{of_z};
 
 use crate::states::Writer;
-use chain_lists::{Kind, Total};
-
-// How many bytes of a record stand before its body.
-const FRAME: usize = 6;
+use chain_lists::{FRAME, Kind, Total};
 
 impl<'a, S> Writer<'a, S> {
     /// Whether `size` bytes are left.

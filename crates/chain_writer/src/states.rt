@@ -1,5 +1,5 @@
 //! A writer and its states, and what it hands out.
-ghost use Rattle.std.specs.Prelude.{◌≡◌};
+ghost use Rattle.std.specs.Prelude.{◌≡◌, ◌≤◌, length as length_of};
 
 use chain_lists::TotalKinds;
 
@@ -32,6 +32,7 @@ pub struct Written<'a> {
     pub out: &'a mut [u8],
     // The whole buffer goes back to the lender, so the file's length stands beside it.
     pub length: usize,
+    ghost within: { length ≤ length_of out.now },
 }
 
 /// A buffer that no file was begun in, and why.

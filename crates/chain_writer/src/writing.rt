@@ -31,6 +31,7 @@ impl WriterRefusal {
 }
 
 /// Begins a file in the buffer `out`: labels 1 to `n`, and the set `start`. A buffer that is refused comes back as it was.
+// Two numbers, as in `is_lawful_head`: a struct of both would be made only to be taken apart.
 pub fn begin<'a>(out: &'a mut [u8], n: u8, start: u64) -> Result<Open<'a>, Rejected<'a>>
     ensures cases { MatchResult result
         (λ w. (begin_refusal n start out.old ≡ None)
@@ -60,6 +61,7 @@ pub fn begin<'a>(out: &'a mut [u8], n: u8, start: u64) -> Result<Open<'a>, Rejec
     Ok(file)
 }
 
+// What a writer holds so far is a premise of its calls: docs/DECISIONS.md, "A writer holds its buffer".
 impl<'a, S: Drop> Writer<'a, S> {
     /// Adds the end, and hands the buffer back with the file in it.
     pub fn end(mut self) -> Written<'a>
@@ -71,10 +73,20 @@ impl<'a, S: Drop> Writer<'a, S> {
     {
         let count = self.count;
         self.put_record(Kind::End, &count.to_le_bytes());
+        let length = self.at.min(self.out.len());
         Written {
             out: self.out,
-            length: self.at,
+            length,
         }
+    }
+}
+
+impl<'a> Written<'a> {
+    /// The bytes of the file.
+    pub fn file(&self) -> &[u8]
+        ensures { result.now ≡ take self.now.length self.now.out.now }
+    {
+        &self.out[..self.length]
     }
 }
 

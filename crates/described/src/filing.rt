@@ -1,6 +1,6 @@
 //! The chain file of a list.
 use chain_lists::{Swap, Total};
-use chain_writer::{Open, Rejected, WriterRefusal, begin};
+use chain_writer::{Open, Rejected, WriterRefusal, Written, begin};
 use matroid::Matroid;
 use measure::Shifts;
 use std::io;
@@ -38,6 +38,7 @@ fn add_exchanges<P: Matroid, R: TieRule>(
         let Some(x) = walk.advance() else {
             break;
         };
+        // By hand: `walk` and `chain_lists` know nothing of each other, and a program cannot write `From` for two types of others.
         let swap = Swap {
             high: x.high,
             low: x.low,
@@ -49,21 +50,21 @@ fn add_exchanges<P: Matroid, R: TieRule>(
 }
 
 /// Writes the list of a walk over `n` labels, which has made no step yet, into the buffer, with the total of its shifts and then that
-/// of the words. Answers the length of the file.
-fn put_list<P: Matroid, R: TieRule>(
-    buffer: &mut [u8],
+/// of the words.
+fn put_list<'a, P: Matroid, R: TieRule>(
+    buffer: &'a mut [u8],
     n: u8,
     walk: &mut Walk<P, R, Shifts>,
     steps: u64,
     lamps: u64,
-) -> Result<usize, Unwritten> {
+) -> Result<Written<'a>, Unwritten> {
     let mut file = begin(buffer, n, walk.look().present)?;
     add_exchanges(&mut file, walk, steps)?;
     let total = walk.look().total;
     let mut totals = file.total(Total::Shift(total.across, total.along));
     // a total of another kind is never refused
     let _ = totals.total(Total::Lamp(lamps));
-    Ok(totals.end().length)
+    Ok(totals.end())
 }
 
 /// Writes the line of the file of the list of a walk over `n` labels, which has made no step yet.
@@ -77,9 +78,9 @@ pub fn write_file<W: Write, P: Matroid, R: TieRule>(
     // A fixed buffer: a list too long for it is to be refused, which is shown.
     let mut buffer = [0u8; ROOM];
     match put_list(&mut buffer, n, walk, steps, lamps) {
-        Ok(length) => {
+        Ok(written) => {
             write!(out, "file ")?;
-            for byte in buffer.iter().take(length) {
+            for byte in written.file() {
                 write!(out, "{byte:02x}")?;
             }
             writeln!(out)

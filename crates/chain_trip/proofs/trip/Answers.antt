@@ -1,4 +1,3 @@
-use Rattle.std.proofs.Common.{arith}
 use Rattle.chain_lists.proofs.Results.{err_told, ok_told}
 use Rattle.chain_lists.specs.Lists.{begun}
 use Rattle.chain_trip.proofs.Trips.{read_told, refused_trip, taken_trip}
@@ -10,14 +9,6 @@ returns-in_err-ok c =
     let e = err_told c.exchange.result _ _ c.in_err-ok.ensures.value c.exchange.ensures.cases in
     rw c.from_residual.ensures (refused_trip c.args.n c.args.start c.args.swap c.args.buffer.now c.in-Ok.file b.0 b.1 b.2 e.1.0)
 
-pub returns-then-length-out : goal.returns-then-length-out
-returns-then-length-out c =
-    let b = c.in-Ok.ensures.cases in
-    let o = ok_told c.exchange.result _ _ _ c.in_ok-ok.ensures.value (c.exchange.ensures.holds (begun c.args.n c.args.start) b.2) in
-    let t = (c.total.ensures _ o).0 in
-    let e = c.end-written.ensures _ t.holding in
-    absurd (omega (arith, e.1, c.if-length-out.true))
-
 pub returns : goal.returns
 returns c =
     let b = c.in-Ok.ensures.cases in
@@ -27,4 +18,4 @@ returns c =
     let e = c.end-written.ensures _ t.holding in
     read_told _ c.read.result _ _ c.ok-2.ensures.value
     (taken_trip c.args.n c.args.start c.args.swap c.args.buffer.now c.in-Ok.file b.0 b.1 b.2 taken.0)
-    (c.read.ensures.reads_back _ e.0)
+    (c.read.ensures.reads_back _ (rw c.file.ensures e.0))

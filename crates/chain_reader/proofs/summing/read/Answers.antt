@@ -1,11 +1,11 @@
-use Rattle.std.proofs.Common.{ℕ, ◌<◌, List, length, sym, subst}
-use Rattle.std.proofs.lemmas.Option.{MatchOption-at_some, MatchOption-at_none}
+use Rattle.std.proofs.Common.{ℕ, List, subst}
+use Rattle.std.proofs.lemmas.Option.{MatchOption-at_none}
 use Rattle.std.proofs.lemmas.Result.{err_from_is_err_and}
 use Rattle.chain_lists.specs.Lists.{ChainList, Holds}
 use Rattle.chain_lists.specs.Faults.{Refused}
 use Rattle.chain_laws.proofs.Law.{law}
 use Rattle.chain_reader.specs.Reading.{Finished, Summarises, fault_of, spot_of}
-use Rattle.chain_reader.proofs.Outlines.{entry_long, finish, left_less}
+use Rattle.chain_reader.proofs.Outlines.{finish}
 use Rattle.chain_reader.proofs.summing.read.Goals as goal
 
 pub returns-in_err-part : goal.returns-in_err-part
@@ -20,14 +20,6 @@ returns-in_err-part c =
       reads_back = λ d holds. rw p.1 (law.not_both c.args.file.now d (fault_of e) (spot_of e) holds refused);
       law = law;
     }
-
-pub loop-part-smaller : goal.loop-part-smaller
-loop-part-smaller c =
-    let i = c.loop-part.invariant in
-    let x = c.in-Some.part in
-    let k = MatchOption-at_some _ _ x c.in-Some.is (c.in_ok-part.ensures.reads i.1.0 i.1.1) in
-    let long : 0 < length x.record.bytes.now = subst (λ (ys : List ℕ). 0 < length ys) (sym k.2) (entry_long x.entry) in
-    left_less _ _ _ _ _ _ x.record.bytes.now i.1.1.made k.0.made c.in_ok-part.ensures.file k.3 long
 
 pub returns : goal.returns
 returns c =

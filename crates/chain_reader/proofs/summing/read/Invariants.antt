@@ -1,7 +1,6 @@
 use Rattle.std.proofs.Common.{◌≡◌, length}
 use Rattle.chain_lists.specs.Faults.{Beginning}
-use Rattle.chain_records.specs.Records.{left_of}
-use Rattle.chain_reader.specs.Reading.{HasRead, SummaryAfter, file_read}
+use Rattle.chain_reader.specs.Reading.{HasRead, SummaryAfter, file_read, unread}
 use Rattle.chain_reader.proofs.summing.read.Given as goal
 
 -- the beginning that was read is lawful, and the summary is that of it
@@ -9,4 +8,4 @@ abbrev pub invariant-loop-part : goal.invariant-loop-part
 invariant-loop-part l = (file_read l.reader ≡ l.file) × ((b : Beginning) × HasRead l.reader b × SummaryAfter b l.summary)
 
 abbrev pub decreases-loop-part : goal.decreases-loop-part
-decreases-loop-part l = length (left_of l.reader.records)
+decreases-loop-part l = length (unread l.reader)
