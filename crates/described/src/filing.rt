@@ -3,8 +3,8 @@ use chain_lists::{Swap, Total};
 use chain_writer::{Open, Rejected, WriterRefusal, begin};
 use matroid::Matroid;
 use measure::Shifts;
-use std::io;
 use std::io::Write;
+use std::{fmt, io};
 use tie_rule::TieRule;
 use walk::Walk;
 
@@ -24,6 +24,17 @@ impl<'a> From<Rejected<'a>> for Unwritten {
             why: rejected.why,
             before: 0,
         }
+    }
+}
+
+impl fmt::Display for Unwritten {
+    fn fmt<W: fmt::Write>(&self, f: &mut fmt::Formatter<W>) -> fmt::Result {
+        write!(
+            f,
+            "file refused {} after {}",
+            self.why.number(),
+            self.before
+        )
     }
 }
 
@@ -61,7 +72,7 @@ fn put_list<P: Matroid, R: TieRule>(
     add_exchanges(&mut file, walk, steps)?;
     let total = walk.look().total;
     let mut totals = file.total(Total::Shift(total.across, total.along));
-    // a total of another kind is never refused
+    // A total of another kind is never refused.
     let _ = totals.total(Total::Lamp(lamps));
     Ok(totals.end().length)
 }
@@ -84,11 +95,6 @@ pub fn write_file<W: Write, P: Matroid, R: TieRule>(
             }
             writeln!(out)
         }
-        Err(unwritten) => writeln!(
-            out,
-            "file refused {} after {}",
-            unwritten.why.number(),
-            unwritten.before
-        ),
+        Err(unwritten) => writeln!(out, "{unwritten}"),
     }
 }
