@@ -14,6 +14,7 @@ use matroid::Matroid;
 mod tests {
     use super::*;
     use binary::BinaryMatrix;
+    use entry::EntryRefusal;
     use matroid::Matroid;
     use std::test::Fail;
 
@@ -41,12 +42,7 @@ mod tests {
         for _ in 0..labels::LIMIT {
             matrix.add(u64::MAX)?;
         }
-        match matrix.add(1) {
-            Ok(()) => Err(Fail::new("a label too many was taken")),
-            Err(refusal) => {
-                assert_eq!(rt; refusal.number(), 7);
-                Ok(())
-            },
-        }
+        assert_eq!(rt; matrix.add(1).err().map(EntryRefusal::number), Some(7));
+        Ok(())
     }
 }

@@ -4,12 +4,14 @@ use binary_matroid::Binary;
 use entry::EntryRefusal;
 use graphic::Graphic;
 use partition::{CLASSES, Partition};
+use std::fmt;
 
 /// Why a plan is refused, and at which label, from 1; at 0 where the plan's own numbers are refused.
 #[derive(Clone, Copy, Debug)]
 pub struct Refusal {
-    pub why: EntryRefusal,
-    pub label: usize,
+    why: EntryRefusal,
+    // No option: the 0 is printed (docs/FORMATS.md).
+    label: usize,
 }
 
 impl Refusal {
@@ -19,23 +21,38 @@ impl Refusal {
     }
 }
 
+impl fmt::Display for Refusal {
+    fn fmt<W: fmt::Write>(&self, f: &mut fmt::Formatter<W>) -> fmt::Result {
+        write!(f, "refused {} label {}", self.why.number(), self.label)
+    }
+}
+
+/// The table with these values entered, label by label.
+fn filled<T: Drop, V: Copy, F: Fn(&mut T, V) -> Result<(), EntryRefusal>>(
+    mut table: T,
+    values: &[V],
+    add: F,
+) -> Result<T, Refusal>
+    requires { F.IsAlwaysCallable add }
+{
+    for (i, value) in values.iter().enumerate() {
+        add(&mut table, *value).map_err(|why| Refusal::at(i + 1, why))?;
+    }
+    Ok(table)
+}
+
 impl Seams {
+    /// The graph.
+    // Other crates fill graphs so too; one in `graphic` would need a contract on which edge is refused first and why, its proof and an edit.
     pub fn matroid(&self) -> Result<Graphic, Refusal> {
-        let mut graphic = Graphic::new(self.points).map_err(|why| Refusal::at(0, why))?;
-        for (i, (a, b)) in self.pairs.iter().enumerate() {
-            graphic.add(*a, *b).map_err(|why| Refusal::at(i + 1, why))?;
-        }
-        Ok(graphic)
+        let graphic = Graphic::new(self.points).map_err(|why| Refusal::at(0, why))?;
+        filled(graphic, &self.pairs, |graphic, (a, b)| graphic.add(a, b))
     }
 }
 
 impl Buttons {
     pub fn matroid(&self) -> Result<Binary, Refusal> {
-        let mut binary = Binary::new();
-        for (i, word) in self.words.iter().enumerate() {
-            binary.add(*word).map_err(|why| Refusal::at(i + 1, why))?;
-        }
-        Ok(binary)
+        filled(Binary::new(), &self.words, Binary::add)
     }
 }
 
@@ -52,15 +69,10 @@ impl Loads {
     }
 
     pub fn matroid(&self) -> Result<Partition, Refusal> {
-        let mut partition = self
+        let partition = self
             .class_limits()
             .and_then(Partition::new)
             .map_err(|why| Refusal::at(0, why))?;
-        for (i, circuit) in self.circuits.iter().enumerate() {
-            partition
-                .add(*circuit)
-                .map_err(|why| Refusal::at(i + 1, why))?;
-        }
-        Ok(partition)
+        filled(partition, &self.circuits, Partition::add)
     }
 }

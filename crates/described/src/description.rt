@@ -54,9 +54,8 @@ pub enum Rule {
 /// What lies over the plan, and how it is walked.
 #[derive(Clone, Copy, Debug, PartialEq, Eq)]
 pub struct Course {
-    pub lower: Option<Layer>,
-    /// None where `lower` is none.
-    pub upper: Option<Layer>,
+    /// The lower layer, if there is one, and the layer over it, if there are two.
+    pub layers: Option<(Layer, Option<Layer>)>,
     pub rule: Rule,
     pub offered: u64,
     pub opened: u64,
@@ -71,46 +70,29 @@ pub struct Rig {
     pub course: Course,
 }
 
-/// A count, and then as many numbers of at most 255.
-fn read_small_numbers(reader: &mut Reader, heap: Global) -> Result<Vec<u8>, Unread> {
-    let count = reader.small()?;
-    let mut numbers = Vec::new(heap);
-    for _ in 0..count {
-        numbers.push(reader.small()?)?;
-    }
-    Ok(numbers)
+fn read_seams(reader: &mut Reader) -> Result<Seams, Unread> {
+    Ok(Seams {
+        points: reader.small()?,
+        pairs: reader.many(|reader| Ok((reader.small()?, reader.small()?)))?,
+    })
 }
 
-fn read_seams(reader: &mut Reader, heap: Global) -> Result<Seams, Unread> {
-    let points = reader.small()?;
-    let count = reader.small()?;
-    let mut pairs = Vec::new(heap);
-    for _ in 0..count {
-        pairs.push((reader.small()?, reader.small()?))?;
-    }
-    Ok(Seams { points, pairs })
-}
-
-fn read_buttons(reader: &mut Reader, heap: Global) -> Result<Buttons, Unread> {
-    let count = reader.small()?;
-    let mut words = Vec::new(heap);
-    for _ in 0..count {
-        words.push(reader.number()?)?;
-    }
+fn read_buttons(reader: &mut Reader) -> Result<Buttons, Unread> {
+    let words = reader.many(|reader| reader.number())?;
     Ok(Buttons { words })
 }
 
-fn read_loads(reader: &mut Reader, heap: Global) -> Result<Loads, Unread> {
-    let limits = read_small_numbers(reader, heap)?;
-    let circuits = read_small_numbers(reader, heap)?;
+fn read_loads(reader: &mut Reader) -> Result<Loads, Unread> {
+    let limits = reader.many(|reader| reader.small())?;
+    let circuits = reader.many(|reader| reader.small())?;
     Ok(Loads { limits, circuits })
 }
 
-fn read_plan(reader: &mut Reader, heap: Global) -> Result<Plan, Unread> {
+fn read_plan(reader: &mut Reader) -> Result<Plan, Unread> {
     match reader.word()? {
-        b"seams" => Ok(Plan::Seams(read_seams(reader, heap)?)),
-        b"buttons" => Ok(Plan::Buttons(read_buttons(reader, heap)?)),
-        b"loads" => Ok(Plan::Loads(read_loads(reader, heap)?)),
+        b"seams" => Ok(Plan::Seams(read_seams(reader)?)),
+        b"buttons" => Ok(Plan::Buttons(read_buttons(reader)?)),
+        b"loads" => Ok(Plan::Loads(read_loads(reader)?)),
         _ => Err(Unread::WrongForm),
     }
 }
@@ -124,12 +106,12 @@ fn read_layer(reader: &mut Reader) -> Result<Layer, Unread> {
     }
 }
 
-/// The lower and the upper layer.
-fn read_layers(reader: &mut Reader) -> Result<(Option<Layer>, Option<Layer>), Unread> {
+/// The layers over the plan.
+fn read_layers(reader: &mut Reader) -> Result<Option<(Layer, Option<Layer>)>, Unread> {
     match reader.small()? {
-        0 => Ok((None, None)),
-        1 => Ok((Some(read_layer(reader)?), None)),
-        2 => Ok((Some(read_layer(reader)?), Some(read_layer(reader)?))),
+        0 => Ok(None),
+        1 => Ok(Some((read_layer(reader)?, None))),
+        2 => Ok(Some((read_layer(reader)?, Some(read_layer(reader)?)))),
         _ => Err(Unread::WrongForm),
     }
 }
@@ -144,10 +126,8 @@ fn read_rule(reader: &mut Reader) -> Result<Rule, Unread> {
 }
 
 fn read_course(reader: &mut Reader) -> Result<Course, Unread> {
-    let (lower, upper) = read_layers(reader)?;
     Ok(Course {
-        lower,
-        upper,
+        layers: read_layers(reader)?,
         rule: read_rule(reader)?,
         offered: reader.number()?,
         opened: reader.number()?,
@@ -160,8 +140,8 @@ pub fn read_rig(text: &[u8], heap: Global) -> Result<Rig, Unread> {
     if text.len() > MOST_BYTES {
         return Err(Unread::WrongForm);
     }
-    let mut reader = Reader::new(text);
-    let plan = read_plan(&mut reader, heap)?;
+    let mut reader = Reader::new(text, heap);
+    let plan = read_plan(&mut reader)?;
     let course = read_course(&mut reader)?;
     reader.end()?;
     Ok(Rig { plan, course })

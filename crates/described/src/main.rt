@@ -29,12 +29,7 @@ fn write_plan<W: Write, P: Matroid + Drop>(
     match plan {
         Ok(matroid) => Ok(write_pile(out, matroid, course)?),
         Err(refusal) => {
-            writeln!(
-                out,
-                "refused {} label {}",
-                refusal.why.number(),
-                refusal.label
-            )?;
+            writeln!(out, "{refusal}")?;
             Err(anyhow!("the plan is refused"))
         }
     }
@@ -43,7 +38,7 @@ fn write_plan<W: Write, P: Matroid + Drop>(
 /// Writes the list of a rig.
 fn write_rig<W: Write>(out: &mut W, rig: Rig) -> anyhow::Result<()> {
     let Rig { plan, course } = rig;
-    // A match, since each arm makes another type of matroid.
+    // A match and no `dyn`: a walk owns its matroid, and its contracts speak of its type.
     match plan {
         Plan::Seams(seams) => write_plan(out, seams.matroid(), course),
         Plan::Buttons(buttons) => write_plan(out, buttons.matroid(), course),
@@ -55,19 +50,15 @@ fn run(rt: &HostRuntime) -> anyhow::Result<()> {
     // A fixed buffer, so that no input takes more memory than this.
     let mut buffer = [0u8; ROOM];
     let n = take_in(rt, &mut buffer)?;
-    match read_rig(&buffer[0..n], rt.alloc()) {
-        Ok(rig) => {
-            let mut out = BufWriter::new(rt.alloc(), rt.stdout())?;
-            let written = write_rig(&mut out, rig);
-            out.flush()?;
-            written
-        }
-        Err(Unread::WrongForm) => {
-            println!(rt; "wrong form")?;
-            Err(anyhow!("the description has a wrong form"))
-        }
-        Err(Unread::NoMemory) => Err(anyhow!("there is no memory")),
+    let read = read_rig(&buffer[..n], rt.alloc());
+    if let Err(Unread::WrongForm) = &read {
+        println!(rt; "wrong form")?;
     }
+    let rig = read?;
+    let mut out = BufWriter::new(rt.alloc(), rt.stdout())?;
+    let written = write_rig(&mut out, rig);
+    out.flush()?;
+    written
 }
 
 fn main(rt: HostRuntime) -> anyhow::Result<()> {

@@ -13,7 +13,7 @@ fn write_whole<W: Write, P: Matroid + Drop>(
     matroid: P,
     course: Course,
 ) -> io::Result<()> {
-    // A match, since each arm makes another type of walk.
+    // A match and no `dyn`: a walk owns its matroid and rule, and its contracts speak of their types.
     match course.rule {
         Rule::Closest => write_walks(out, matroid, Closest, course),
         Rule::Furthest => write_walks(out, matroid, Furthest, course),
@@ -22,13 +22,15 @@ fn write_whole<W: Write, P: Matroid + Drop>(
 }
 
 /// Writes the list of the pile that the upper layer makes of this matroid.
+// Not one with `write_pile`: over the lower layer comes `write_upper`, over the upper one the walk, and a closure takes one type only.
 fn write_upper<W: Write, P: Matroid + Drop>(
     out: &mut W,
     matroid: P,
+    upper: Option<Layer>,
     course: Course,
 ) -> io::Result<()> {
-    // A match, since each arm makes another type of pile; the functions for the two layers differ in what comes above.
-    match course.upper {
+    // A match, as above.
+    match upper {
         None => write_whole(out, matroid, course),
         Some(Layer::Dual) => write_whole(out, Dual::new(matroid), course),
         Some(Layer::Truncation(most)) => {
@@ -46,15 +48,23 @@ pub fn write_pile<W: Write, P: Matroid + Drop>(
     matroid: P,
     course: Course,
 ) -> io::Result<()> {
-    // A match, since each arm makes another type of pile; a layer over a layer is a type again, so each depth has a function.
-    match course.lower {
-        None => write_whole(out, matroid, course),
-        Some(Layer::Dual) => write_upper(out, Dual::new(matroid), course),
-        Some(Layer::Truncation(most)) => {
-            write_upper(out, Truncation::new(matroid, u64::from(most)), course)
-        }
-        Some(Layer::Minor(contracted, deleted)) => {
-            write_upper(out, Minor::new(matroid, contracted, deleted), course)
-        }
+    let Some((lower, upper)) = course.layers else {
+        return write_whole(out, matroid, course);
+    };
+    // A match, as above; a layer over a layer is a type again, so each depth has a function.
+    match lower {
+        Layer::Dual => write_upper(out, Dual::new(matroid), upper, course),
+        Layer::Truncation(most) => write_upper(
+            out,
+            Truncation::new(matroid, u64::from(most)),
+            upper,
+            course,
+        ),
+        Layer::Minor(contracted, deleted) => write_upper(
+            out,
+            Minor::new(matroid, contracted, deleted),
+            upper,
+            course,
+        ),
     }
 }

@@ -74,12 +74,7 @@ mod tests {
         for _ in 0..LIMIT {
             words.add(1)?;
         }
-        match words.add(1) {
-            Ok(()) => Err(Fail::new("a label too many was taken")),
-            Err(refusal) => {
-                assert_eq!(rt; refusal.number(), 7);
-                Ok(())
-            },
-        }
+        assert_eq!(rt; words.add(1).err().map(EntryRefusal::number), Some(7));
+        Ok(())
     }
 }

@@ -110,12 +110,7 @@ mod tests {
         for _ in 0..LIMIT {
             shifts.add(1, 1)?;
         }
-        match shifts.add(1, 1) {
-            Ok(()) => Err(Fail::new("a label too many was taken")),
-            Err(refusal) => {
-                assert_eq!(rt; refusal.number(), 7);
-                Ok(())
-            },
-        }
+        assert_eq!(rt; shifts.add(1, 1).err().map(EntryRefusal::number), Some(7));
+        Ok(())
     }
 }

@@ -8,12 +8,13 @@ use tie_rule::TieRule;
 use walk::{Parts, Walk};
 
 /// The highest label that a word can hold.
-const HIGHEST: u8 = 64;
+const HIGHEST: u8 = u64::BITS as u8;
 
 /// What a walk is called, and how it begins. A set is a word, label `e` at bit `e - 1`.
 #[derive(Clone, Copy, Debug)]
 pub struct Case {
     /// The matroid at the bottom.
+    // Not in one struct with the matroid: that has another type with each layer, and the name stays.
     pub kind: &'static str,
     /// All else, layers from the lowest up.
     pub rest: &'static str,
@@ -22,7 +23,7 @@ pub struct Case {
 }
 
 /// How many of the words below `words` are bases that are wanted.
-// The trial of small rigs counts all bases by two of these steps, with a contract; here a caller's test is asked too, for `compare_part`.
+// `rigs` counts all bases, with a contract; here a caller's test is asked too, which one for both would have to state.
 fn bases_below<P: Matroid, F: Fn(u64) -> bool>(matroid: &P, words: u64, wanted: F) -> u64
     requires { F.IsAlwaysCallable wanted }
 {
@@ -51,14 +52,17 @@ fn words_of<P: Matroid>(matroid: &P) -> u64 {
     full_to(matroid.size()).saturating_add(1)
 }
 
-/// Writes the line of a case: how many sets were found without a walk, and how many were handed out; it is an error where the numbers differ.
-fn write_pair<W: Write>(
+/// Walks to the end, and writes the line of a case: how many sets were found without a walk, and how many were handed out; it is an error
+/// where the numbers differ. Gives the matroid back.
+fn write_pair<W: Write, P: Matroid + Drop, R: TieRule + Drop, M: Measure + Drop>(
     out: &mut W,
     case: Case,
     found: u64,
     what: &str,
-    handed: u64,
-) -> anyhow::Result<()> {
+    walk: Walk<P, R, M>,
+) -> anyhow::Result<P> {
+    let Parts { matroid, view, .. } = walked(walk);
+    let handed = view.count;
     writeln!(
         out,
         "{}, {}: {found} {what}, {handed} handed out",
@@ -67,7 +71,7 @@ fn write_pair<W: Write>(
     if found != handed {
         return Err(anyhow!("the numbers differ"));
     }
-    Ok(())
+    Ok(matroid)
 }
 
 /// Walks with all labels active, and writes how many bases there are and how many sets the walk handed out: as many, or it is an error.
@@ -80,15 +84,8 @@ pub fn compare<W: Write, P: Matroid + Drop, R: TieRule + Drop, M: Measure + Drop
     measure: M,
 ) -> anyhow::Result<P> {
     let bases = bases_below(&matroid, words_of(&matroid), |_| true);
-    let Parts { matroid, view, .. } = walked(Walk::begin(
-        matroid,
-        rule,
-        measure,
-        case.offered,
-        u64::MAX,
-    ));
-    write_pair(out, case, bases, "bases", view.count)?;
-    Ok(matroid)
+    let walk = Walk::begin(matroid, rule, measure, case.offered, u64::MAX);
+    write_pair(out, case, bases, "bases", walk)
 }
 
 /// Walks with some labels active, and writes how many bases are ahead of the start and how many sets the walk handed out: as many, or it is an error.
@@ -107,13 +104,6 @@ pub fn compare_part<W: Write, P: Matroid + Drop, R: TieRule + Drop, M: Measure +
         words_of(&matroid),
         |set| is_ahead(set, first, opened),
     );
-    let Parts { matroid, view, .. } = walked(Walk::begin(
-        matroid,
-        rule,
-        measure,
-        case.offered,
-        opened,
-    ));
-    write_pair(out, case, ahead, "bases ahead", view.count)?;
-    Ok(matroid)
+    let walk = Walk::begin(matroid, rule, measure, case.offered, opened);
+    write_pair(out, case, ahead, "bases ahead", walk)
 }

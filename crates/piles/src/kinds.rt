@@ -21,7 +21,7 @@ pub(crate) fn filled<T: Drop, V: Copy, F: Fn(&mut T, V) -> Result<(), EntryRefus
 }
 
 /// The graph with these edges.
-// The trial of small rigs has a `graph_of` of five lines, for it fills no other table so; `rig.rt` there says what one for both would need.
+// Other crates fill graphs so too; one in `graphic` would need a contract on which edge is refused first and why, its proof and an edit.
 pub fn graph_of(points: u8, edges: &[(u8, u8)]) -> anyhow::Result<Graphic> {
     let graphic = Graphic::new(points).context("the number of points is refused")?;
     filled(graphic, edges, "an edge is refused", |graphic, (a, b)| {
@@ -67,23 +67,16 @@ pub fn four_classes() -> anyhow::Result<Partition> {
     classes_of([2, 1, 2, 0, 0, 0, 0, 0], &[1, 2, 3, 1, 2, 3, 1, 4, 3])
 }
 
-/// The complete graph of five points.
+/// The complete graph of five points: each two are joined, those of lower points first.
+// By point, as in `rigs`; one for both would be public, with a contract on all the pairs, its proof and an edit.
 pub fn complete() -> anyhow::Result<Graphic> {
-    graph_of(
-        5,
-        &[
-            (1, 2),
-            (1, 3),
-            (2, 3),
-            (1, 4),
-            (2, 4),
-            (3, 4),
-            (1, 5),
-            (2, 5),
-            (3, 5),
-            (4, 5),
-        ],
-    )
+    let mut graphic = graph_of(5, &[])?;
+    for last in 2..=5 {
+        for first in 1..last {
+            graphic.add(first, last).context("an edge is refused")?;
+        }
+    }
+    Ok(graphic)
 }
 
 /// Twelve labels in three classes.

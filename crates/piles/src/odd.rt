@@ -10,6 +10,7 @@ use std::io::Write;
 use tie_rule::{Closest, Furthest};
 
 /// A matroid, and then its dual.
+// The name goes beside the matroid: `Case` takes the one and `compare` the other.
 fn write_both<W: Write, P: Matroid + Drop>(
     out: &mut W,
     kind: &'static str,

@@ -17,6 +17,7 @@ const OPENED: [(&'static str, u64); 5] = [
 ];
 
 /// One matroid with each of the opened sets, which it is walked on with in turn.
+// The name goes beside the matroid, here and below: `Case` takes the one and `compare_part` the other.
 fn write_opened<W: Write, P: Matroid + Drop>(
     out: &mut W,
     kind: &'static str,

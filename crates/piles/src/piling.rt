@@ -13,6 +13,8 @@ fn minor<P: Matroid>(below: P) -> Minor<P> {
 }
 
 /// The two orders in which the dual lies lowest.
+// Not one function for the three lowest layers: each lays piles of its own types, and keeps the lowest layer between its two orders.
+// The name goes beside the matroid, here and below: `Case` takes the one and `compare` the other.
 fn write_dual_lowest<W: Write, P: Matroid + Drop>(
     out: &mut W,
     kind: &'static str,

@@ -53,7 +53,7 @@ fn write_partition<W: Write>(out: &mut W) -> anyhow::Result<()> {
 }
 
 /// Columns.
-// As `write_words`, but for its table and values: what the two did alike is in `write_entries`.
+// Not one with `write_shifts` and `write_words`: what they share is `write_entries`; table, values and names are left.
 fn write_binary<W: Write>(out: &mut W) -> anyhow::Result<()> {
     let binary = columns_of(&[1; LIMIT - 1])?;
     let entries = [("binary, 48th label", u64::MAX), ("binary, 49th label", 0)];

@@ -38,6 +38,7 @@ fn write_set_lists<W: Write>(out: &mut W, walk: &mut SurveyWalk) -> io::Result<(
 
 /// Lists exchanges into room for five.
 fn write_exchange_list<W: Write>(out: &mut W, walk: &mut SurveyWalk) -> io::Result<()> {
+    // A filler: a roll is lent a slice, whose entries are there before it writes them.
     let none = Exchange {
         high: 0,
         low: 0,

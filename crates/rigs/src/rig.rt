@@ -37,8 +37,7 @@ pub const TRIANGLE: Rig = Rig {
 const SHIFTS: [(i64, i64); 3] = [(10, 0), (0, 5), (-2, 1)];
 
 /// The graph with these edges.
-// The trial of piles has a `graph_of` of four lines, by its own `filled`; one in `graphic` would need a contract that says which edge is
-// refused first and why, its proof and an edit.
+// Other crates fill graphs so too; one in `graphic` would need a contract on which edge is refused first and why, its proof and an edit.
 pub fn graph_of(points: u8, edges: &[Pair]) -> anyhow::Result<Graphic> {
     let mut graphic = Graphic::new(points).context("the number of points is refused")?;
     for (a, b) in edges {

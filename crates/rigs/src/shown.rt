@@ -6,7 +6,7 @@ use walk::{Exchange, Stop, View};
 
 /// A value as it is printed here.
 #[derive(Clone, Copy, Debug)]
-// A wrapper, since what is printed are numbers and types of other crates.
+// A wrapper: this text is this program's alone; at the type it would be public, with a clause and an edit.
 pub struct Shown<T>(pub T);
 
 /// A set, by its labels.

@@ -1,12 +1,14 @@
 //! Walks that the texts of surveys open.
-use crate::rig::{Pair, during};
+use crate::rig::during;
 use crate::walking::write_sets;
-use anyhow::Context;
+use anyhow::anyhow;
 use labels::LIMIT;
+use lines::RefusedLine;
 use matroid::{Matroid, rank};
 use std::alloc::Global;
 use std::io::Write;
 use std::{fmt, io};
+use survey::Refusal;
 use survey_walk::walk_of;
 
 /// What a survey is called, and its text.
@@ -33,6 +35,14 @@ const CASES: [Case; 8] = [
 /// How many points the long texts have.
 const POINTS: u8 = 11;
 
+/// The line of a refusal.
+fn line_of(refusal: Refusal) -> RefusedLine {
+    RefusedLine {
+        number: refusal.fault.number(),
+        row: refusal.row,
+    }
+}
+
 /// Writes what a text opens, or why it is refused.
 fn write_opening<W: Write>(out: &mut W, name: &str, text: &[u8]) -> io::Result<()> {
     match walk_of(text) {
@@ -46,12 +56,7 @@ fn write_opening<W: Write>(out: &mut W, name: &str, text: &[u8]) -> io::Result<(
                 rank(&matroid, u64::MAX)
             )
         }
-        Err(refusal) => writeln!(
-            out,
-            "survey, {name}: refused {} row {}",
-            refusal.fault.number(),
-            refusal.row
-        ),
+        Err(refusal) => writeln!(out, "survey, {name}: {}", line_of(refusal)),
     }
 }
 
@@ -59,29 +64,22 @@ fn write_opening<W: Write>(out: &mut W, name: &str, text: &[u8]) -> io::Result<(
 fn write_walk<W: Write>(out: &mut W, case: Case) -> anyhow::Result<()> {
     let (name, text) = case;
     write!(out, "survey, {name}: ")?;
-    let begun = walk_of(text).ok().context("the survey is refused")?;
-    Ok(during(begun, |walk| write_sets(out, walk))?)
-}
-
-/// The pair of points after `pair`, where those of lower points come first: 1 and 2, 1 and 3, 2 and 3, 1 and 4 and so on.
-fn next_pair(pair: Pair) -> Pair {
-    let (a, b) = pair;
-    let next = a.saturating_add(1);
-    if next < b {
-        (next, b)
-    } else {
-        (1, b.saturating_add(1))
+    match walk_of(text) {
+        Ok(walk) => Ok(during(walk, |walk| write_sets(out, walk))?),
+        Err(refusal) => {
+            writeln!(out, "{}", line_of(refusal))?;
+            Err(anyhow!("the survey is refused"))
+        }
     }
 }
 
-/// The text of a survey whose edges are the first `size` pairs of points.
+/// The text of a survey whose edges are the first `size` pairs of points: 1 and 2, 1 and 3, 2 and 3, 1 and 4 and so on.
 fn first_rows(heap: Global, size: usize) -> Result<String, fmt::Error> {
     let mut text = String::new(heap);
     writeln!(text, "{POINTS}")?;
-    let mut pair = (1, 2);
-    for _ in 0..size {
-        writeln!(text, "{},{},0,0", pair.0, pair.1)?;
-        pair = next_pair(pair);
+    let pairs = (2..=POINTS).flat_map(|b| (1..b).map(move |a| (a, b)));
+    for (a, b) in pairs.take(size) {
+        writeln!(text, "{a},{b},0,0")?;
     }
     Ok(text)
 }

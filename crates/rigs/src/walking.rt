@@ -77,12 +77,9 @@ pub fn write_sets<W: Write>(out: &mut W, walk: &mut SurveyWalk) -> io::Result<()
 pub fn rest_of(walk: &mut SurveyWalk) -> u64
     ensures { walk.new.view.count ≡ walk.old.view.count + result }
 {
-    // A loop: `std::iter::from_fn(|| walk.advance()).count()` was tried, but `count` wants an iterator that is known to end.
-    let mut more: u64 = 0;
-    while walk.advance().is_some() {
-        more += 1;
-    }
-    more
+    let before = walk.look().count;
+    while walk.advance().is_some() {}
+    walk.look().count - before
 }
 
 /// Writes the line of a rig's whole walk.

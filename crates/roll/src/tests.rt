@@ -32,10 +32,7 @@ fn numbers(rt: HostRuntime) -> Result<(), Fail> {
     assert_eq!(rt; roll.get(2), None);
     roll.append(7)?;
     assert!(rt; roll.is_full());
-    match roll.append(8) {
-        Ok(()) => Err(Fail::new("a full roll took an entry"))?,
-        Err(refusal) => assert_eq!(rt; refusal.number(), 11),
-    }
+    assert_eq!(rt; roll.append(8).err().map(RollRefusal::number), Some(11));
     assert_eq!(rt; roll.into_room()[2], 7);
     Ok(())
 }

@@ -61,6 +61,8 @@ fn run<P: Matroid + Drop>(matroid: P, most: u64) -> Outcome {
 }
 
 /// The graph of the pairs of `ends`, each two bytes.
+// Bytes and no pairs: C calls with them.
+// Other crates fill graphs so too; one in `graphic` would need a contract on which edge is refused first and why, its proof and an edit.
 fn graph_of(points: u8, ends: &[u8]) -> Option<Graphic> {
     let mut graphic = Graphic::new(points).ok()?;
     for pair in ends.chunks_exact(2) {
@@ -70,6 +72,7 @@ fn graph_of(points: u8, ends: &[u8]) -> Option<Graphic> {
 }
 
 /// The binary matroid of these columns.
+// Not one loop with `graph_of`: a pair there is cut out of the bytes, and what is entered differs.
 fn binary_of(words: &[u64]) -> Option<Binary> {
     let mut binary = Binary::new();
     for word in words {
@@ -79,6 +82,7 @@ fn binary_of(words: &[u64]) -> Option<Binary> {
 }
 
 /// Writes how the walk over a matroid ended, if there is a matroid; answers whether there is.
+// A bool, and the outcome in the caller's place for it: C calls the functions below so.
 fn write_outcome<P: Matroid + Drop>(matroid: Option<P>, most: u64, outcome: &mut Outcome) -> bool {
     let Some(matroid) = matroid else {
         return false;
