@@ -17,6 +17,7 @@ use walk::Walk;
 pub const ROOM: usize = 512;
 
 /// A survey, and what it is called.
+// `rigs` has the triangle too: each trial names the texts that it reads.
 #[derive(Clone, Copy, Debug, PartialEq, Eq)]
 struct Rig {
     name: &'static str,

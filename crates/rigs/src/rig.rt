@@ -47,6 +47,7 @@ pub fn graph_of(points: u8, edges: &[Pair]) -> anyhow::Result<Graphic> {
 }
 
 /// The complete graph: each two points are joined, those of lower points first.
+// `piles` has one too; one for both would be public, with a contract on all the pairs, its proof and an edit.
 pub fn complete(points: u8) -> anyhow::Result<Graphic> {
     let mut graphic = graph_of(points, &[])?;
     // By point: the pairs are made of the numbers of the points, and there is no list of them.
