@@ -114,6 +114,7 @@ fn write_swaps<W: Write>(out: &mut W, file: &mut Open) -> io::Result<()> {
 /// Writes a file with refusals on the way, and what it is read as.
 fn write_stubborn<W: Write>(out: &mut W, buffer: &mut [u8]) -> anyhow::Result<()> {
     writeln!(out, "room {}", buffer.len())?;
+    // A match: what is refused holds the lent buffer, and the check does not cover a closure over that.
     let mut file = match begin(buffer, 3, 0b011) {
         Ok(file) => file,
         Err(rejected) => return Err(anyhow!("no file is begun: {}", rejected.why.number())),
