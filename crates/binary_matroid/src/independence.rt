@@ -26,7 +26,7 @@ impl BinaryMatrix for Binary {
 }
 
 /// The matroid of the linearly independent sets of columns.
-// Not one impl for every `BinaryMatrix`: its clause is in the words of places, and that of `Graphic` in those of points.
+// Not one impl for every `BinaryMatrix`: the clause `odd` speaks of places here, and of points in `Graphic`.
 impl Matroid for Binary {
     ghost size = { λ m. length (columns m) };
 

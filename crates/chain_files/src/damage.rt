@@ -37,7 +37,7 @@ fn front(bytes: &[u8], n: usize) -> &[u8] {
 
 /// Writes the lines of all damages.
 pub fn write_damages<W: Write>(out: &mut W) -> anyhow::Result<()> {
-    // A fixed buffer, as a writer's caller has it.
+    // A fixed buffer: the lists here are short, and a `Vec` would only add a way to fail.
     let mut buffer = [0u8; ROOM];
     let Written { out: bytes, length } = triangle(&mut buffer)?;
     write_cut(out, &bytes[..length])?;

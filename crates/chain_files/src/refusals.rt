@@ -84,7 +84,7 @@ fn write_refused<W: Write>(out: &mut W, why: WriterRefusal) -> io::Result<()> {
 
 /// Writes whether a file was begun.
 fn write_beginning<W: Write>(out: &mut W, b: Beginning) -> io::Result<()> {
-    // A fixed buffer, of which each beginning gets a part.
+    // A fixed buffer, made anew for each beginning, which gets the front of it: no room here is above `ROOM`.
     let mut buffer = [0xaau8; ROOM];
     let room = b.room.min(ROOM);
     write!(out, "{} labels, start {}, room {room}: ", b.n, b.start)?;
@@ -114,7 +114,7 @@ fn write_swaps<W: Write>(out: &mut W, file: &mut Open) -> io::Result<()> {
 /// Writes a file with refusals on the way, and what it is read as.
 fn write_stubborn<W: Write>(out: &mut W, buffer: &mut [u8]) -> anyhow::Result<()> {
     writeln!(out, "room {}", buffer.len())?;
-    // A match: what is refused holds the lent buffer, and the check does not cover a closure over that.
+    // A match: `Rejected` is no error for `anyhow`, and the check does not cover a closure over the lent buffer in it (tried).
     let mut file = match begin(buffer, 3, 0b011) {
         Ok(file) => file,
         Err(rejected) => return Err(anyhow!("no file is begun: {}", rejected.why.number())),

@@ -17,13 +17,13 @@ use walk::Walk;
 pub const ROOM: usize = 512;
 
 /// A survey, and what it is called.
-// `rigs` has the triangle too: each trial names the texts that it reads.
 #[derive(Clone, Copy, Debug, PartialEq, Eq)]
 struct Rig {
     name: &'static str,
     text: &'static [u8],
 }
 
+// `rigs` has this text too: one for both would be a public constant of a library, for two trials alone.
 const TRIANGLE: Rig = Rig {
     name: "triangle",
     text: b"3\n1,2,10,0\n2,3,0,5\n1,3,-2,1\n",
@@ -41,7 +41,7 @@ const WORDS: [u64; 5] = [0b01, 0b10, 0b11, 0b100, 0b1000];
 // Beside that of `described`, which stops after a number of steps and tells how many there were before a refusal.
 fn add_exchanges(walk: &mut SurveyWalk, file: &mut Open) -> Result<(), WriterRefusal> {
     while let Some(x) = walk.advance() {
-        // By hand, as the total below: `walk` and `measure` know nothing of `chain_lists`, and a program cannot write `From` for two types of others.
+        // By hand, as the total below: a program cannot write `From` for two types of other crates, and these know nothing of each other.
         file.exchange(Swap {
             high: x.high,
             low: x.low,
@@ -75,6 +75,7 @@ fn lamp_total(graphic: Graphic) -> anyhow::Result<u64> {
         words.add(*word).context("a word is refused")?;
     }
     let mut walk = Walk::begin(graphic, Closest, words, 0, u64::MAX);
+    // A loop: an iterator made by `std::iter::from_fn` is not known to end, and what runs one to its end asks that.
     while walk.advance().is_some() {}
     Ok(walk.close().view.total.bits)
 }
@@ -140,7 +141,7 @@ fn list_of<'a>(rig: Rig, totals: bool, buffer: &'a mut [u8]) -> anyhow::Result<W
 
 /// Writes what became of a rig's list, with or without totals.
 fn write_trip<W: Write>(out: &mut W, rig: Rig, totals: bool) -> anyhow::Result<()> {
-    // A fixed buffer, as a writer's caller has it.
+    // A fixed buffer: the lists here are short, and a `Vec` would only add a way to fail.
     let mut buffer = [0u8; ROOM];
     let written = list_of(rig, totals, &mut buffer)?;
     writeln!(out, "{}: {} bytes", rig.name, written.length)?;

@@ -106,7 +106,7 @@ impl Kind {
     }
 
     /// The length that stands in a record of this kind: of the kind's number and the body.
-    // Beside `number`, not in place of it: another column of the format's table.
+    // A match as in `number`: another column of the format's table (docs/FORMATS.md).
     pub fn length(self) -> u32
         ensures { result ≡ kind_length self }
     {

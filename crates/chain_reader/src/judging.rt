@@ -39,7 +39,7 @@ fn head(found: Record<'_>) -> Result<Step, ListFault>
 }
 
 impl Progress {
-    // `Known` is a premise here and below: the beginning that was read is no value of the code, so no type can hold it.
+    // `Known` is a premise here and below: which beginning was read is no value of the code, so that it stands in no field.
     fn exchange(self, found: Record<'_>) -> Result<Step, ListFault>
         requires { found.kind ≡ Exchange }
         ensures { (c : ChainList) → Known (so_far c) (SoFar self) found.entry.spot

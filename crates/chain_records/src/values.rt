@@ -20,7 +20,7 @@ pub struct Record<'a> {
 }
 
 /// What can be wrong with the frame of a record.
-// A spot in each variant: a struct of kind and spot is a type more.
+// A spot in each variant: a struct of kind and spot is a type more, and a match on what is wrong would open it first.
 #[derive(Clone, Copy, Debug, PartialEq, Eq)]
 pub enum RecordFault {
     /// The length is cut off, or fewer bytes are left than it states.

@@ -47,7 +47,7 @@ fn write_rig<W: Write>(out: &mut W, rig: Rig) -> anyhow::Result<()> {
 }
 
 fn run(rt: &HostRuntime) -> anyhow::Result<()> {
-    // A fixed buffer, so that no input takes more memory than this.
+    // A fixed buffer: no lawful description is longer, and a longer text is refused before anything is made of it.
     let mut buffer = [0u8; ROOM];
     let n = take_in(rt, &mut buffer)?;
     let read = read_rig(&buffer[..n], rt.alloc());

@@ -6,8 +6,7 @@ use labels::LIMIT;
 /// A value for each of the labels 1, 2, .. in turn, as they were added.
 #[derive(Drop)]
 pub struct Entries<V> {
-    // An array with its length beside: the library's `ArrayVec` wants a default of each value, and an edge has none, since its points are 1 at
-    // least.
+    // An array with its length beside: `ArrayVec` asks for `Default`, and that of an edge would be a loop, by hand, with no meaning.
     pub(crate) places: [V; LIMIT],
     pub(crate) used: u8,
     ghost whole: { length places ≡ limit },

@@ -4,7 +4,7 @@ ghost use Rattle.labels.specs.Sets.{single};
 
 /// An edge joins two points, which are one point where it is a loop.
 /// Its column has the places of the two points, and none where it is a loop.
-// Two bytes and no type for a point: callers have bytes, and one test and one refusal is for both of them.
+// Two bytes and no type for a point: callers have bytes, and one test and one refusal serve both.
 #[derive(Clone, Copy, Debug, PartialEq, Eq)]
 pub struct Edge {
     pub(crate) a: u8,

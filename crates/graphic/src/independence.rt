@@ -28,7 +28,7 @@ impl BinaryMatrix for Graphic {
 }
 
 /// The matroid of the forests of a graph.
-// Not one impl for every `BinaryMatrix`: its clause is in the words of points, and that of `Binary` in those of places.
+// Not one impl for every `BinaryMatrix`: the clause `odd` speaks of points here, and of places in `Binary`.
 impl Matroid for Graphic {
     ghost size = { λ g. length (graph g) };
 

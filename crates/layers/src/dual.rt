@@ -16,7 +16,7 @@ pub type Dual<P> = Layer<P, Complement>;
 
 impl<P: Matroid> Dual<P> {
     /// The dual of the matroid below.
-    // Its first clause stands in each of the three: what it is given is gone when it answers, so no type can hold that.
+    // The clause `below` stands in `new` of each layer: it speaks of the argument, which is moved away, so that no invariant can say it.
     pub fn new(below: P) -> Dual<P>
         ensures below { result.below ≡ below }
         ensures family { (s : ℕ) → (dual (P.Matroid.size result.below) (P.Matroid.independent result.below) s ≡ true)

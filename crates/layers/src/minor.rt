@@ -21,7 +21,7 @@ impl<P: Matroid> Minor<P> {
     /// Contracts and deletes labels of the matroid below; a label in both sets is contracted, and one above its size changes nothing.
     /// A set is independent where it has none of these labels and is independent below together with the contracted labels that are held:
     /// going through them upwards, each that leaves the held set independent.
-    // Its first clause stands in each of the three: what it is given is gone when it answers, so no type can hold that.
+    // The clause `below` stands in `new` of each layer: it speaks of the argument, which is moved away, so that no invariant can say it.
     pub fn new(below: P, contracted: u64, deleted: u64) -> Minor<P>
         ensures below { result.below ≡ below }
         ensures held { result.kind.held ≡ greedy_of (P.Matroid.size below) (P.Matroid.independent below) contracted }

@@ -18,7 +18,7 @@ pub type Truncation<P> = Layer<P, Cap>;
 
 impl<P: Matroid> Truncation<P> {
     /// Caps the sets of the matroid below at `most` labels; a number of at least all labels caps nothing.
-    // Its first clause stands in each of the three: what it is given is gone when it answers, so no type can hold that.
+    // The clause `below` stands in `new` of each layer: it speaks of the argument, which is moved away, so that no invariant can say it.
     pub fn new(below: P, most: u64) -> Truncation<P>
         ensures below { result.below ≡ below }
         ensures most { result.kind.most ≡ most }

@@ -7,7 +7,7 @@ use std::fmt;
 #[derive(Clone, Copy, Debug)]
 pub struct RefusedLine {
     /// The number that the refusal is known by.
-    // A number and no enum: this crate lies below the reader of surveys and does not know its faults.
+    // A number and no enum: this crate does not use the reader of surveys, so it does not know its faults.
     pub number: u8,
     /// The row.
     pub row: u32,

@@ -3,7 +3,7 @@ ghost use Rattle.measure.specs.Laws.{GroupLaws};
 
 /// What labels are worth. The values form a group, so that a total can be kept up to date by adding what comes in
 /// and the opposite of what goes out.
-// The sum is the measure's and not its values', as in `Group`: two measures may sum values of one type in different ways.
+// Not `type Value: Group`, where the sum is the values' own: a measure of plain numbers would need a type of its own for them.
 pub trait Measure {
     type Value: Copy;
 

@@ -5,8 +5,8 @@ use std::fmt;
 use walk::{Exchange, Stop, View};
 
 /// A value as it is printed here.
+// A wrapper, so that a list prints sets and exchanges alike (`Shown<E>`); but for sets, the texts are this program's alone.
 #[derive(Clone, Copy, Debug)]
-// A wrapper: this text is this program's alone; at the type it would be public, with a clause and an edit.
 pub struct Shown<T>(pub T);
 
 /// A set, by its labels.

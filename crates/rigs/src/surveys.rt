@@ -12,9 +12,9 @@ use survey::Refusal;
 use survey_walk::walk_of;
 
 /// What a survey is called, and its text.
-// `chain_files` has the triangle too: each trial names the texts that it reads.
 type Case = (&'static str, &'static [u8]);
 
+// `chain_files` has this text too: one for both would be a public constant of a library, for two trials alone.
 const TRIANGLE: Case = ("triangle", b"3\n1,2,10,0\n2,3,0,5\n1,3,-2,1\n");
 
 const UNENDED: Case = (

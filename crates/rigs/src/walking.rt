@@ -78,6 +78,7 @@ pub fn rest_of(walk: &mut SurveyWalk) -> u64
     ensures { walk.new.view.count ≡ walk.old.view.count + result }
 {
     let before = walk.look().count;
+    // A loop: an iterator made by `std::iter::from_fn` is not known to end, and what runs one to its end asks that.
     while walk.advance().is_some() {}
     walk.look().count - before
 }

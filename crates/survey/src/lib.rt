@@ -85,7 +85,7 @@ mod tests {
         assert!(rt; is_refused(b"3\n1,2,0,0\n2,3,0,0\n2,1,0,0\n", 5, 4));
     }
 
-    // So many rows with pairs of their own.
+    // The text of a survey with so many rows, each with a pair of its own.
     fn many(heap: Global, size: usize) -> Result<String, fmt::Error> {
         let mut text = String::new(heap);
         writeln!(text, "32")?;

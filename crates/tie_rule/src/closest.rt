@@ -21,8 +21,7 @@ fn highest(set: u64) -> u8
 }
 
 /// The rule that takes the candidate closest to the label: the highest one. It keeps no state.
-// Not one type with `Furthest` and a parameter for highest or lowest: choice and laws differ, so that each member would match on it, and an
-// alias of such a type is no value, where callers write `Closest`.
+// Not one type with `Furthest`: a trait for highest or lowest would be `TieRule` again, and an alias is no value, as callers write `Closest`.
 #[derive(Clone, Copy, Debug)]
 pub struct Closest;
 

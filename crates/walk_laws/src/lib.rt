@@ -9,7 +9,7 @@ ghost use Rattle.std.specs.Prelude.{◌≡◌};
 pub struct Exchange {
     pub high: u8,
     pub low: u8,
-    // A flag and no enum with labels in it: whoever asks wants both labels, the higher one first, and an enum would need a match for that.
+    // A flag and no enum with labels in it: programs take the higher label and then the lower one, and would need a match for that.
     pub came: bool,
 }
 
