@@ -1,5 +1,6 @@
 /* The same walk without a proof, for comparison: active labels, the tie rule closest, shifts as measure, independence by
    elimination over 64-bit words with a pivot by the highest bit. Nothing here is cleverer than the proved code. */
+#include "elimination.h"
 #include "walks.h"
 
 #define PRIME 1099511628211ull
@@ -33,26 +34,9 @@ static inline uint64_t full(int n)
     return n == 64 ? ~0ull : (1ull << n) - 1;
 }
 
-static inline int by_elimination(const struct matroid *m, uint64_t set)
+static inline int plain(const struct matroid *m, uint64_t set)
 {
-    uint64_t pivots[64] = {0};
-    if (set >> m->n)
-        return 0;
-    while (set) {
-        uint64_t left = m->columns[__builtin_ctzll(set)];
-        for (;;) {
-            if (!left)
-                return 0;
-            int place = 63 - __builtin_clzll(left);
-            if (!pivots[place]) {
-                pivots[place] = left;
-                break;
-            }
-            left ^= pivots[place];
-        }
-        set &= set - 1;
-    }
-    return 1;
+    return by_elimination(m->columns, m->n, set);
 }
 
 static inline uint64_t greedy(const struct matroid *m, question *independent, uint64_t set, uint64_t kept)
@@ -65,7 +49,7 @@ static inline uint64_t greedy(const struct matroid *m, question *independent, ui
 
 static inline int in_minor(const struct matroid *m, uint64_t set)
 {
-    return !set || (!(set & m->removed) && by_elimination(m, set | m->held));
+    return !set || (!(set & m->removed) && plain(m, set | m->held));
 }
 
 static inline int dual_of(const struct matroid *m, question *below, uint64_t set)
@@ -82,13 +66,13 @@ static inline int dual_of(const struct matroid *m, question *below, uint64_t set
 static int seams(const struct matroid *m, uint64_t set)
 {
     asked++;
-    return by_elimination(m, set);
+    return plain(m, set);
 }
 
 static int dual(const struct matroid *m, uint64_t set)
 {
     asked++;
-    return dual_of(m, by_elimination, set);
+    return dual_of(m, plain, set);
 }
 
 static int pile(const struct matroid *m, uint64_t set)
@@ -188,7 +172,7 @@ bool reference_pile(uint8_t points, const uint8_t *ends, size_t length, uint64_t
 {
     (void)points;
     struct matroid m = graph_of(ends, length);
-    m.held = greedy(&m, by_elimination, 1, 0);
+    m.held = greedy(&m, plain, 1, 0);
     m.removed = 3;
     m.most = 3;
     walk(&m, pile, most, outcome);

@@ -1,8 +1,7 @@
 /* Other ways to ask, tried in C beside the plain one before anything is written and proved: prints what a base costs with each.
    Built and run by `bench/variants`; docs/PERFORMANCE.md has the figures of one run. */
-#include <stdint.h>
+#include "elimination.h"
 #include <stdio.h>
-#include <string.h>
 #include <time.h>
 
 #define MOST_LABELS 48
@@ -19,23 +18,7 @@ typedef int question(uint64_t);
 /* As bench/reference.c asks: a table of pivots, cleared for every question. */
 static int cleared(uint64_t set)
 {
-    uint64_t pivots[64] = {0};
-    if (set >> n)
-        return 0;
-    for (; set; set &= set - 1) {
-        uint64_t left = columns[__builtin_ctzll(set)];
-        for (;;) {
-            if (!left)
-                return 0;
-            int place = 63 - __builtin_clzll(left);
-            if (!pivots[place]) {
-                pivots[place] = left;
-                break;
-            }
-            left ^= pivots[place];
-        }
-    }
-    return 1;
+    return by_elimination(columns, n, set);
 }
 
 /* A table that is not cleared, with a word that says which pivots are there. */

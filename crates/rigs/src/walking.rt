@@ -77,10 +77,13 @@ pub fn write_sets<W: Write>(out: &mut W, walk: &mut SurveyWalk) -> io::Result<()
 pub fn rest_of(walk: &mut SurveyWalk) -> u64
     ensures { walk.new.view.count ≡ walk.old.view.count + result }
 {
-    let before = walk.look().count;
-    // A loop: an iterator made by `std::iter::from_fn` is not known to end, and what runs one to its end asks that.
-    while walk.advance().is_some() {}
-    walk.look().count - before
+    // By hand: apart from the walk's own count, against which the contract holds it; and an iterator made by `std::iter::from_fn` is not
+    // known to end, which `count` asks.
+    let mut more: u64 = 0;
+    while walk.advance().is_some() {
+        more += 1;
+    }
+    more
 }
 
 /// Writes the line of a rig's whole walk.
