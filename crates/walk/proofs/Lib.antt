@@ -1,4 +1,5 @@
 mod Turns
+mod Known
 mod Made
 mod Sound
 mod Advance

@@ -6,7 +6,9 @@ ghost use Rattle.walk_laws.specs.Settings.{summed};
 ghost use Rattle.walk_laws.specs.Steps.{after, begun, exchange_at, step, value_after};
 ghost use Rattle.walk.specs.States.{Keeps, Movable, setting, setting_of, state_of};
 
+use crate::candidates::movable;
 use crate::{Parts, Walk};
+use answers::Answers;
 use label_words::{contains, full_to, labels_of, reopened, swapped};
 use matroid::{Matroid, start};
 use measure::Measure;
@@ -49,6 +51,7 @@ impl<P: Matroid, R: TieRule, M: Measure> Walk<P, R, M> {
                 value,
                 total: value,
             },
+            answers: Answers::new(),
         }
     }
 
@@ -89,6 +92,11 @@ impl<P: Matroid, R: TieRule, M: Measure> Walk<P, R, M> {
             came,
         };
         let value = self.value_after(exchange);
+        self.answers.carry(
+            self.view.present,
+            exchange.leaving(),
+            exchange.entering(),
+        );
         let view = &mut self.view;
         view.present = swapped(view.present, label, low);
         view.active = reopened(view.active, label);
@@ -106,7 +114,12 @@ impl<P: Matroid, R: TieRule, M: Measure> Walk<P, R, M> {
         ensures call { Call (setting_of P.Matroid R.TieRule M.Measure self.old) (state_of self.old) (advanced result) (handed result (state_of self.new)) (state_of self.new) }
         ensures cases { MatchOption result (state_of self.new ≡ state_of self.old) (λ _. self.new.view.count ≡ self.old.view.count + 1) }
     {
-        let (label, found) = self.movable()?;
+        let (label, found) = movable(
+            &self.matroid,
+            &mut self.answers,
+            self.view.present,
+            self.view.active,
+        )?;
         Some(self.exchange(label, found))
     }
 
@@ -122,6 +135,7 @@ impl<P: Matroid, R: TieRule, M: Measure> Walk<P, R, M> {
             rule,
             measure,
             view,
+            answers: _,
         } = self;
         Parts {
             matroid,

@@ -1,49 +1,66 @@
-ghost use Rattle.std.specs.Prelude.{◌≡◌, ℕ, ◌≤◌, true, MatchOption};
-ghost use Rattle.labels.specs.Sets.{has};
+ghost use Rattle.std.specs.Prelude.{◌≡◌, ℕ, ◌≤◌, true, false, MatchOption};
+ghost use Rattle.labels.specs.Sets.{has, swap};
+ghost use Rattle.answer_laws.specs.Answers.{Right};
+ghost use Rattle.answers.specs.Table.{known};
 ghost use Rattle.walk.specs.States.{Movable, partners};
 
-use crate::Walk;
+use answers::Answers;
 use label_words::{contains, full_to, inserted, labels_of, swapped};
 use matroid::Matroid;
-use measure::Measure;
-use tie_rule::TieRule;
 
-impl<P: Matroid, R: TieRule, M: Measure> Walk<P, R, M> {
-    /// The labels below `label` on the other side that it can be swapped with.
-    fn candidates(&self, label: u8) -> u64
-        requires { label ≤ 64 }
-        ensures { result ≡ partners (P.Matroid.independent self.now.matroid) self.now.view.present label }
-    {
-        let others = if contains(self.view.present, label) {
-            !self.view.present
+/// Whether swapping `inside`, of the set `present`, with `outside` leads to an independent set.
+/// The matroid is asked only where that is not known, and what it answers is noted.
+fn swaps<P: Matroid>(matroid: &P, answers: &mut Answers, present: u64, inside: u8, outside: u8) -> bool
+    requires known { Right (P.Matroid.independent matroid.now) present (known answers.old) }
+    requires inside { (1 ≤ inside) × (inside ≤ 64) × (has present inside ≡ true) }
+    requires outside { (1 ≤ outside) × (outside ≤ 64) × (has present outside ≡ false) }
+    ensures answer { result ≡ P.Matroid.independent matroid.now (swap present inside outside) }
+    ensures known { Right (P.Matroid.independent matroid.now) present (known answers.new) }
+{
+    if let Some(answer) = answers.get(inside, outside) {
+        return answer;
+    }
+    let answer = matroid.is_independent(swapped(present, inside, outside));
+    answers.note(inside, outside, answer);
+    answer
+}
+
+/// The labels below `label` on the other side of the set `present` that it can be swapped with.
+fn candidates<P: Matroid>(matroid: &P, answers: &mut Answers, present: u64, label: u8) -> u64
+    requires label { (1 ≤ label) × (label ≤ 64) }
+    requires known { Right (P.Matroid.independent matroid.now) present (known answers.old) }
+    ensures found { result ≡ partners (P.Matroid.independent matroid.now) present label }
+    ensures known { Right (P.Matroid.independent matroid.now) present (known answers.new) }
+{
+    let came = !contains(present, label);
+    let others = if came { present } else { !present };
+    let mut found = 0;
+    for other in labels_of(others & full_to(label - 1)) {
+        let (inside, outside) = if came {
+            (other, label)
         } else {
-            self.view.present
+            (label, other)
         };
-        let mut found = 0;
-        for other in labels_of(others & full_to(label.saturating_sub(1))) {
-            if self
-                .matroid
-                .is_independent(swapped(self.view.present, label, other))
-            {
-                found = inserted(found, other);
-            }
+        if swaps(matroid, answers, present, inside, outside) {
+            found = inserted(found, other);
         }
-        found
     }
+    found
+}
 
-    /// The lowest active label that has a candidate, with its candidates.
-    pub(crate) fn movable(&self) -> Option<(u8, u64)>
-        ensures { MatchOption result
-            ((d : ℕ) → 1 ≤ d → d ≤ P.Matroid.size self.now.matroid → has self.now.view.active d ≡ true
-            → partners (P.Matroid.independent self.now.matroid) self.now.view.present d ≡ 0)
-            (λ x. Movable (P.Matroid.size self.now.matroid) (P.Matroid.independent self.now.matroid) self.now.view.present self.now.view.active x.0 x.1) }
-    {
-        for label in labels_of(self.view.active & full_to(self.matroid.size())) {
-            let found = self.candidates(label);
-            if found != 0 {
-                return Some((label, found));
-            }
+/// The lowest of the labels `active` that has a candidate, with its candidates.
+pub(crate) fn movable<P: Matroid>(matroid: &P, answers: &mut Answers, present: u64, active: u64) -> Option<(u8, u64)>
+    requires known { Right (P.Matroid.independent matroid.now) present (known answers.old) }
+    ensures found { MatchOption result
+        ((d : ℕ) → 1 ≤ d → d ≤ P.Matroid.size matroid.now → has active d ≡ true → partners (P.Matroid.independent matroid.now) present d ≡ 0)
+        (λ x. Movable (P.Matroid.size matroid.now) (P.Matroid.independent matroid.now) present active x.0 x.1) }
+    ensures known { Right (P.Matroid.independent matroid.now) present (known answers.new) }
+{
+    for label in labels_of(active & full_to(matroid.size())) {
+        let found = candidates(matroid, answers, present, label);
+        if found != 0 {
+            return Some((label, found));
         }
-        None
     }
+    None
 }

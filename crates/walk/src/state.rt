@@ -1,7 +1,10 @@
 ghost use Rattle.std.specs.Prelude.{◌+◌, ◌^◌, ◌≤◌};
 ghost use Rattle.labels.specs.Sets.{limit};
+ghost use Rattle.answer_laws.specs.Answers.{Right};
+ghost use Rattle.answers.specs.Table.{known};
 ghost use Rattle.matroid_laws.specs.Matroids.{Base};
 
+use answers::Answers;
 use matroid::Matroid;
 use measure::Measure;
 use tie_rule::TieRule;
@@ -14,6 +17,9 @@ pub struct Walk<P: Matroid, R: TieRule, M: Measure> {
     pub(crate) rule: R,
     pub(crate) measure: M,
     pub(crate) view: View<M::Value>,
+    // What is known of the present set's swaps: it saves most questions, and decides nothing.
+    pub(crate) answers: Answers,
     ghost bounded: { view.count + view.active ≤ 2 ^ limit },
     ghost based: { Base (P.Matroid.size matroid) (P.Matroid.independent matroid) view.present },
+    ghost right: { Right (P.Matroid.independent matroid) view.present (known answers) },
 }

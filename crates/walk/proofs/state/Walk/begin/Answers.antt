@@ -1,3 +1,6 @@
+use Rattle.std.proofs.Common.{sym, subst}
+use Rattle.answer_laws.specs.Answers.{Right}
+use Rattle.answer_laws.proofs.Right.{none_right}
 use Rattle.walk_laws.proofs.LawOfLife.{law_of_life, same_as_g}
 use Rattle.walk.specs.States.{setting}
 use Rattle.walk.proofs.Made.{full_is, few_at_first}
@@ -10,6 +13,7 @@ invariant_of-result g c =
     record {
       bounded = few_at_first (g.P.Matroid.size m) _ c.full_to.result few (full_is _ c.size-n.result _ few c.size-n.ensures c.full_to.ensures);
       based = c.start-present.ensures.base;
+      right = subst (Right (g.P.Matroid.independent m) c.start-present.result) (sym c.new.ensures) (none_right (g.P.Matroid.independent m) c.start-present.result);
     }
 
 pub returns-clause-law : goal.returns-clause-law

@@ -1,0 +1,2 @@
+pub mod Swaps
+pub mod Right

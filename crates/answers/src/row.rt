@@ -1,0 +1,83 @@
+ghost use Rattle.std.specs.Prelude.{◌≡◌, ℕ, ◌≤◌, true, false, Some, None, cond, not, ◌==◌, ◌&&◌, ◌||◌};
+ghost use Rattle.labels.specs.Sets.{has};
+
+use label_words::{contains, inserted};
+
+/// What is known of one label of a set with each label outside it: those with which a swap leads to an independent set, and those with which it does not.
+#[derive(Clone, Copy, Debug)]
+pub(crate) struct Row {
+    pub(crate) yes: u64,
+    pub(crate) no: u64,
+}
+
+/// `set` with `label`, or without it.
+fn with(set: u64, label: u8, held: bool) -> u64
+    requires { (1 ≤ label) × (label ≤ 64) }
+    ensures { (b : ℕ) → has result b ≡ cond (b == label) held (has set b) }
+{
+    let one = inserted(0, label);
+    if held { set | one } else { set & !one }
+}
+
+/// All labels or none.
+fn all(held: bool) -> u64
+    ensures { result ≡ cond held 18446744073709551615 0 }
+{
+    if held { u64::MAX } else { 0 }
+}
+
+impl Row {
+    /// Nothing is known.
+    pub(crate) const NOTHING: Row = Row { yes: 0, no: 0 };
+
+    /// What is known, if anything.
+    pub(crate) fn answer(self, outside: u8) -> Option<bool>
+        ensures { result ≡ cond (has self.yes outside) (Some true) (cond (has self.no outside) (Some false) None) }
+    {
+        if contains(self.yes, outside) {
+            Some(true)
+        } else if contains(self.no, outside) {
+            Some(false)
+        } else {
+            None
+        }
+    }
+
+    /// The same, and what the swap with `outside` leads to.
+    pub(crate) fn noted(self, outside: u8, answer: bool) -> Row
+        requires { (1 ≤ outside) × (outside ≤ 64) }
+        ensures yes { (b : ℕ) → has result.yes b ≡ cond (b == outside) answer (has self.yes b) }
+        ensures no { (b : ℕ) → has result.no b ≡ cond (b == outside) (not answer) (has self.no b) }
+    {
+        Row {
+            yes: with(self.yes, outside, answer),
+            no: with(self.no, outside, !answer),
+        }
+    }
+
+    /// The row of the label that came in, from that of the label `leaving`, which it took the place of.
+    pub(crate) fn taken_over(self, leaving: u8) -> Row
+        requires { (1 ≤ leaving) × (leaving ≤ 64) }
+        ensures yes { (b : ℕ) → has result.yes b ≡ (b == leaving || has self.yes b) }
+        ensures no { (b : ℕ) → has result.no b ≡ (not (b == leaving) && has self.no b) }
+    {
+        self.noted(leaving, true)
+    }
+
+    /// What is still known of another label, once `leaving`, with the row `gone`, was swapped with `entering`.
+    // Without a branch: this is done for each label of the set at each exchange.
+    pub(crate) fn carried(self, gone: Row, leaving: u8, entering: u8) -> Row
+        requires { (1 ≤ leaving) × (leaving ≤ 64) }
+        ensures yes { (b : ℕ) → has result.yes b ≡ cond (b == leaving) (has self.yes entering) (has self.yes b && (has self.no entering || has gone.no b) || has self.yes entering && (has gone.yes b && has self.no b)) }
+        ensures no { (b : ℕ) → has result.no b ≡ cond (b == leaving) (has self.no entering) (has self.no b && (has self.no entering || has gone.no b)) }
+    {
+        let yes = contains(self.yes, entering);
+        let no = contains(self.no, entering);
+        let stays = all(no) | gone.no;
+        let turns = all(yes) & gone.yes & self.no;
+        Row {
+            yes: with(self.yes & stays | turns, leaving, yes),
+            no: with(self.no & stays, leaving, no),
+        }
+    }
+}
