@@ -1,5 +1,5 @@
 -- What is known of the swaps of a set: of each label a in it with each label b outside it.
-use Rattle.std.specs.Prelude.{◌≡◌, ℕ, ◌≤◌, Bool, true, false, cond, not, ◌&&◌, ◌||◌, Some, None, Option, ◌==◌}
+use Rattle.std.specs.Prelude.{◌≡◌, ℕ, ◌≤◌, Bool, true, false, cond, not, ◌&&◌, ◌||◌, ◌==◌}
 use Rattle.labels.specs.Sets.{has, swap}
 use Rattle.matroid_laws.specs.Matroids.{IsMatroid}
 
@@ -8,10 +8,6 @@ pub record Answers : Type 0 where
   pub yes : ℕ → ℕ → Bool
   -- it is known not to
   pub no : ℕ → ℕ → Bool
-
--- what is known of one swap
-abbrev pub answer : Answers → ℕ → ℕ → Option Bool
-answer o a b = cond (o.yes a b) (Some true) (cond (o.no a b) (Some false) None)
 
 -- nothing is known
 abbrev pub none : Answers

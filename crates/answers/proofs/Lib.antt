@@ -1,3 +1,4 @@
 mod Rows
 mod Places
-mod Turns
+pub mod Turns
+pub mod Columns

@@ -50,17 +50,17 @@ starts first g l m others h = record {
 }
 
 -- of sets alone
-rest_within : (s rest e : ℕ) → Subset rest s → has rest e ≡ true → Subset (bit_xor rest (single e)) s
+pub rest_within : (s rest e : ℕ) → Subset rest s → has rest e ≡ true → Subset (bit_xor rest (single e)) s
 rest_within s rest e p i f k = go (ℕ_discrete f e)
   where
     go : Dec (f ≡ e) → has s f ≡ true
     go (yes z) = ap (has s) z ∙ p e i
     go (no z) = let l = has_pos rest e i in let q = p f in grind (arith, members)
 
-rest_other : (rest e a : ℕ) → has rest e ≡ true → (a ≡ e → ⊥) → has (bit_xor rest (single e)) a ≡ has rest a
+pub rest_other : (rest e a : ℕ) → has rest e ≡ true → (a ≡ e → ⊥) → has (bit_xor rest (single e)) a ≡ has rest a
 rest_other rest e a i z = let l = has_pos rest e i in grind (arith, members)
 
-rest_same : (rest e : ℕ) → has rest e ≡ true → has (bit_xor rest (single e)) e ≡ false
+pub rest_same : (rest e : ℕ) → has rest e ≡ true → has (bit_xor rest (single e)) e ≡ false
 rest_same rest e i = let l = has_pos rest e i in grind (arith, members)
 
 module _ (first : List Row) (g : Row) (l m others : ℕ) (e : ℕ) (left : List ℕ) (rows : List Row) (C : CarryingTo first g l m others (e ∷ left) rows) where

@@ -5,4 +5,5 @@ mod noting;
 mod row;
 mod table;
 
+pub use row::Row;
 pub use table::Answers;

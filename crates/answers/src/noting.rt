@@ -1,11 +1,11 @@
-ghost use Rattle.std.specs.Prelude.{◌≡◌, ◌≤◌, ◌-◌, cond, ◌&&◌, slice_set};
-ghost use Rattle.labels.specs.Sets.{limit};
-ghost use Rattle.answer_laws.specs.Answers.{answer, carried, none, noted};
+ghost use Rattle.std.specs.Prelude.{◌≡◌, ℕ, ◌≤◌, ◌-◌, cond, ◌&&◌, slice_set};
+ghost use Rattle.labels.specs.Sets.{has, limit};
+ghost use Rattle.answer_laws.specs.Answers.{carried, none, noted};
 ghost use Rattle.answers.specs.Table.{is_label, known, row_of};
 
-use crate::row::Row;
+use crate::row::{Row, with};
 use crate::table::Answers;
-use label_words::{full_to, inserted, labels_of};
+use label_words::{contains, full_to, inserted, labels_of};
 use labels::LIMIT;
 
 /// Whether `label` has a row: whether it is one that there can be.
@@ -25,21 +25,28 @@ impl Answers {
         }
     }
 
-    /// What is known of one label.
-    fn row(&self, label: u8) -> Row
-        ensures { result ≡ row_of self.now.rows label }
+    /// What is known of the swaps of `inside`, of the set, with the labels outside it.
+    pub fn row(&self, inside: u8) -> Row
+        ensures { result ≡ row_of self.now.rows inside }
     {
-        if !has_row(label) {
+        if !has_row(inside) {
             return Row::NOTHING;
         }
-        self.rows[label as usize - 1]
+        self.rows[inside as usize - 1]
     }
 
-    /// Whether swapping `inside`, of the set, with `outside` leads to an independent set, if that is known.
-    pub fn get(&self, inside: u8, outside: u8) -> Option<bool>
-        ensures { result ≡ answer (known self.now) inside outside }
+    /// What is known of the swaps of `outside` with the labels `insides` of the set.
+    pub fn column(&self, outside: u8, insides: u64) -> Row
+        ensures yes { (a : ℕ) → has result.yes a ≡ (has insides a && (known self.now).yes a outside) }
+        ensures no { (a : ℕ) → has result.no a ≡ (has insides a && (known self.now).no a outside) }
     {
-        self.row(inside).answer(outside)
+        let mut column = Row::NOTHING;
+        for inside in labels_of(insides & full_to(LIMIT as u8)) {
+            let row = self.row(inside);
+            column.yes = with(column.yes, inside, contains(row.yes, outside));
+            column.no = with(column.no, inside, contains(row.no, outside));
+        }
+        column
     }
 
     /// Puts another row in the place of that of `label`.

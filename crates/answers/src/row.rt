@@ -1,47 +1,35 @@
-ghost use Rattle.std.specs.Prelude.{◌≡◌, ℕ, ◌≤◌, true, false, Some, None, cond, not, ◌==◌, ◌&&◌, ◌||◌};
+ghost use Rattle.std.specs.Prelude.{◌≡◌, ℕ, ◌≤◌, cond, not, ◌==◌, ◌&&◌, ◌||◌};
 ghost use Rattle.labels.specs.Sets.{has};
 
 use label_words::{contains, inserted};
 
-/// What is known of one label of a set with each label outside it: those with which a swap leads to an independent set, and those with which it does not.
+/// What is known of the swaps of one label: the labels with which one leads to an independent set, and those with which it does not.
 #[derive(Clone, Copy, Debug)]
-pub(crate) struct Row {
-    pub(crate) yes: u64,
-    pub(crate) no: u64,
-}
-
-/// `set` with `label`, or without it.
-fn with(set: u64, label: u8, held: bool) -> u64
-    requires { (1 ≤ label) × (label ≤ 64) }
-    ensures { (b : ℕ) → has result b ≡ cond (b == label) held (has set b) }
-{
-    let one = inserted(0, label);
-    if held { set | one } else { set & !one }
+pub struct Row {
+    pub yes: u64,
+    pub no: u64,
 }
 
 /// All labels or none.
+// The compiler makes no branch of it: rows are carried for each label of the set at each exchange, and no branch there would be foreseen.
 fn all(held: bool) -> u64
     ensures { result ≡ cond held 18446744073709551615 0 }
 {
     if held { u64::MAX } else { 0 }
 }
 
+/// `set` with `label`, or without it.
+pub(crate) fn with(set: u64, label: u8, held: bool) -> u64
+    requires { (1 ≤ label) × (label ≤ 64) }
+    ensures { (b : ℕ) → has result b ≡ cond (b == label) held (has set b) }
+{
+    let one = inserted(0, label);
+    set & !one | one & all(held)
+}
+
 impl Row {
     /// Nothing is known.
     pub(crate) const NOTHING: Row = Row { yes: 0, no: 0 };
-
-    /// What is known, if anything.
-    pub(crate) fn answer(self, outside: u8) -> Option<bool>
-        ensures { result ≡ cond (has self.yes outside) (Some true) (cond (has self.no outside) (Some false) None) }
-    {
-        if contains(self.yes, outside) {
-            Some(true)
-        } else if contains(self.no, outside) {
-            Some(false)
-        } else {
-            None
-        }
-    }
 
     /// The same, and what the swap with `outside` leads to.
     pub(crate) fn noted(self, outside: u8, answer: bool) -> Row
@@ -65,7 +53,6 @@ impl Row {
     }
 
     /// What is still known of another label, once `leaving`, with the row `gone`, was swapped with `entering`.
-    // Without a branch: this is done for each label of the set at each exchange.
     pub(crate) fn carried(self, gone: Row, leaving: u8, entering: u8) -> Row
         requires { (1 ≤ leaving) × (leaving ≤ 64) }
         ensures yes { (b : ℕ) → has result.yes b ≡ cond (b == leaving) (has self.yes entering) (has self.yes b && (has self.no entering || has gone.no b) || has self.yes entering && (has gone.yes b && has self.no b)) }

@@ -27,63 +27,11 @@ summed_listed z sum worth t zero = refl
 summed_listed {V} z sum worth t (suc n) =
     ap (λ (v : V). cond (has t (suc n)) (sum v (worth (suc n))) v) (summed_listed z sum worth t n) ∙ sym (fold_labels (gained sum worth) z t n)
 
--- ---- the partners of a label
-
--- the label o joins what was found where swapping e and o gives an independent set
-abbrev pub partnered : (ℕ → Bool) → ℕ → ℕ → ℕ → ℕ → ℕ
-partnered f t e c o = cond (f (bit_xor t (bit_or (word_of e) (word_of o)))) (bit_or c (word_of o)) c
-
-pub partners_listed : (f : ℕ → Bool) (t e s : ℕ) → e ≤ 64 → ((o : ℕ) → 1 ≤ o → o < e → has s o ≡ differs (has t e) (has t o))
-    → partners f t e ≡ fold (partnered f t e) 0 (labels_in s (e - 1))
-partners_listed f t e s g same =
-    passing_listed (swappable f t e) (λ o. f (bit_xor t (bit_or (word_of e) (word_of o)))) (λ c o. bit_or c (word_of o)) s (e - 1)
-    (λ o i k. let q = same o i (omega arith) in let z = ap f (swap_is t e o _ (omega arith) g i (omega arith) refl) in grind arith)
-    (λ c o i k. ap (bit_or c) (word_in o i (omega arith)))
-
--- the labels on the other side, as the code has them
-pub others_out : (t e : ℕ) → t < 2 ^ 64 → e ≤ 64 → has t e ≡ true → (o : ℕ) → 1 ≤ o → o < e → has (18446744073709551615 - t) o ≡ differs (has t e) (has t o)
-others_out t e h g i o l k = let w = has_outside t o h l (omega arith) in grind arith
-
-pub others_in : (t e : ℕ) → has t e ≡ false → (o : ℕ) → 1 ≤ o → o < e → has t o ≡ differs (has t e) (has t o)
-others_in t e i o l k = grind arith
-
--- o is a label below e, on the other side
-abbrev pub beside : ℕ → ℕ → ℕ → Bool
-beside t e o = among (e - 1) o && differs (has t e) (has t o)
-
-pub listed_beside : (t e s n : ℕ) → n ≤ e - 1 → ((o : ℕ) → 1 ≤ o → o < e → has s o ≡ differs (has t e) (has t o)) → list_all (beside t e) (labels_in s n) ≡ true
-unfolding labels_in
-listed_beside t e s zero h same = refl
-listed_beside t e s (suc n) h same = go (has s (suc n)) refl (listed_beside t e s n (omega arith) same)
-  where
-    go : (b : Bool) → has s (suc n) ≡ b → list_all (beside t e) (labels_in s n) ≡ true → list_all (beside t e) (cond b (labels_in s n ++ (suc n ∷ [])) (labels_in s n)) ≡ true
-    go true q ih =
-        let r = list_all-append (beside t e) (labels_in s n) (suc n ∷ []) in let w = same (suc n) (omega arith) (omega arith) in grind (arith, nat_tests)
-    go false q ih = ih
-
-pub first_beside : (t e o : ℕ) (os : List ℕ) → list_all (beside t e) (o ∷ os) ≡ true → (1 ≤ o) × (o ≤ e - 1) × (differs (has t e) (has t o) ≡ true)
-first_beside t e o os h = (grind (arith, nat_tests), grind (arith, nat_tests), grind (arith, nat_tests))
-
-pub rest_beside : (t e o : ℕ) (os : List ℕ) → list_all (beside t e) (o ∷ os) ≡ true → list_all (beside t e) os ≡ true
-rest_beside t e o os h = grind (arith, nat_tests)
-
 pub side_in : (t e o : ℕ) → has t e ≡ true → differs (has t e) (has t o) ≡ true → has t o ≡ false
 side_in t e o i d = grind arith
 
 pub side_out : (t e o : ℕ) → has t e ≡ false → differs (has t e) (has t o) ≡ true → has t o ≡ true
 side_out t e o i d = grind arith
-
--- the swap of e with o, whichever of them is inside, as the fold has it
-pub swap_as : (t e o : ℕ) (p : ℕ × ℕ) → 1 ≤ e → e ≤ 64 → 1 ≤ o → o ≤ 64 → p ≡ (e, o) → swap t p.0 p.1 ≡ bit_xor t (bit_or (word_of e) (word_of o))
-swap_as t e o p l h k m q = ap (λ (x : ℕ × ℕ). swap t x.0 x.1) q ∙ sym (swap_is t e o _ l h k m refl)
-
-pub swap_back : (t e o : ℕ) (p : ℕ × ℕ) → 1 ≤ e → e ≤ 64 → 1 ≤ o → o ≤ 64 → p ≡ (o, e) → swap t p.0 p.1 ≡ bit_xor t (bit_or (word_of e) (word_of o))
-swap_back t e o p l h k m q = ap (λ (x : ℕ × ℕ). swap t x.0 x.1) q ∙ swap_comm t o e k l ∙ sym (swap_is t e o _ l h k m refl)
-
--- one label more is asked for
-pub asked : (f : ℕ → Bool) (t e o c x : ℕ) (os : List ℕ) (k : Bool) → k ≡ f x → x ≡ bit_xor t (bit_or (word_of e) (word_of o))
-    → fold (partnered f t e) c (o ∷ os) ≡ fold (partnered f t e) (cond k (bit_or c (word_of o)) c) os
-asked f t e o c x os k h q = ap (λ (b : Bool). fold (partnered f t e) (cond b (bit_or c (word_of o)) c) os) (sym (h ∙ ap f q))
 
 -- ---- the label that moves
 

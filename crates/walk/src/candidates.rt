@@ -1,4 +1,4 @@
-ghost use Rattle.std.specs.Prelude.{◌≡◌, ℕ, ◌≤◌, true, false, MatchOption};
+ghost use Rattle.std.specs.Prelude.{◌≡◌, ℕ, ◌≤◌, true, MatchOption};
 ghost use Rattle.labels.specs.Sets.{has, swap};
 ghost use Rattle.answer_laws.specs.Answers.{Right};
 ghost use Rattle.answers.specs.Table.{known};
@@ -8,24 +8,21 @@ use answers::Answers;
 use label_words::{contains, full_to, inserted, labels_of, swapped};
 use matroid::Matroid;
 
-/// Whether swapping `inside`, of the set `present`, with `outside` leads to an independent set.
-/// The matroid is asked only where that is not known, and what it answers is noted.
-fn swaps<P: Matroid>(matroid: &P, answers: &mut Answers, present: u64, inside: u8, outside: u8) -> bool
+/// Asks whether swapping `inside`, of the set `present`, with `outside` leads to an independent set, and notes the answer.
+fn ask<P: Matroid>(matroid: &P, answers: &mut Answers, present: u64, inside: u8, outside: u8) -> bool
     requires known { Right (P.Matroid.independent matroid.now) present (known answers.old) }
-    requires inside { (1 ≤ inside) × (inside ≤ 64) × (has present inside ≡ true) }
-    requires outside { (1 ≤ outside) × (outside ≤ 64) × (has present outside ≡ false) }
+    requires inside { (1 ≤ inside) × (inside ≤ 64) }
+    requires outside { (1 ≤ outside) × (outside ≤ 64) }
     ensures answer { result ≡ P.Matroid.independent matroid.now (swap present inside outside) }
     ensures known { Right (P.Matroid.independent matroid.now) present (known answers.new) }
 {
-    if let Some(answer) = answers.get(inside, outside) {
-        return answer;
-    }
     let answer = matroid.is_independent(swapped(present, inside, outside));
     answers.note(inside, outside, answer);
     answer
 }
 
 /// The labels below `label` on the other side of the set `present` that it can be swapped with.
+/// The matroid is asked only of those of which it is not known.
 fn candidates<P: Matroid>(matroid: &P, answers: &mut Answers, present: u64, label: u8) -> u64
     requires label { (1 ≤ label) × (label ≤ 64) }
     requires known { Right (P.Matroid.independent matroid.now) present (known answers.old) }
@@ -33,15 +30,21 @@ fn candidates<P: Matroid>(matroid: &P, answers: &mut Answers, present: u64, labe
     ensures known { Right (P.Matroid.independent matroid.now) present (known answers.new) }
 {
     let came = !contains(present, label);
-    let others = if came { present } else { !present };
-    let mut found = 0;
-    for other in labels_of(others & full_to(label - 1)) {
+    let side = if came { present } else { !present };
+    let others = side & full_to(label - 1);
+    let known = if came {
+        answers.column(label, others)
+    } else {
+        answers.row(label)
+    };
+    let mut found = known.yes & others;
+    for other in labels_of(others & !(known.yes | known.no)) {
         let (inside, outside) = if came {
             (other, label)
         } else {
             (label, other)
         };
-        if swaps(matroid, answers, present, inside, outside) {
+        if ask(matroid, answers, present, inside, outside) {
             found = inserted(found, other);
         }
     }

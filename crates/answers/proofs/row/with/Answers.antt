@@ -1,9 +1,6 @@
-use Rattle.std.proofs.Common.{sym, ap, ◌∙◌}
-use Rattle.answers.proofs.Rows.{one_is, put_in, left_out}
+use Rattle.answers.proofs.Rows.{one_is, set_to}
 use Rattle.answers.proofs.row.with.Goals as goal
 
-pub returns-then-held : goal.returns-then-held
-returns-then-held c = λ b. let one = one_is c.args.label _ c.requires.0 c.requires.1 c.inserted-one.ensures in put_in c.args.set c.args.label _ b c.requires.0 one ∙ cc
-
-pub returns-else-held : goal.returns-else-held
-returns-else-held c = λ b. let one = one_is c.args.label _ c.requires.0 c.requires.1 c.inserted-one.ensures in left_out c.args.set c.args.label _ b c.requires.0 c.requires.1 c.ranges.set.fits one ∙ cc
+pub returns : goal.returns
+returns c = λ b.
+    set_to c.args.set c.args.label _ _ b c.args.held c.requires.0 c.requires.1 c.ranges.set.fits (one_is c.args.label _ c.requires.0 c.requires.1 c.inserted-one.ensures) c.all.ensures

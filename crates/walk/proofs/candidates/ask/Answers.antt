@@ -4,7 +4,7 @@ use Rattle.answer_laws.specs.Answers.{Answers, Right, noted}
 use Rattle.answer_laws.proofs.Right.{noted_right}
 use Rattle.answers.specs.Table.{known}
 use Rattle.walk.proofs.Known.{either_right}
-use Rattle.walk.proofs.candidates.swaps.Goals as goal
+use Rattle.walk.proofs.candidates.ask.Goals as goal
 
 pub returns-clause-known : goal.returns-clause-known
 returns-clause-known g c =
