@@ -1,11 +1,12 @@
 -- The bits of a row.
-use Rattle.std.proofs.Common.{◌≡◌, ℕ, zero, suc, ◌-◌, ◌^◌, ◌<◌, ◌≤◌, Bool, true, false, cond, ◌&&◌, ◌||◌, ◌==◌, not, eqb, refl, sym, ap, ◌∙◌, ap₂, arith}
+use Rattle.std.proofs.Common.{◌≡◌, ℕ, zero, suc, ◌-◌, ◌*◌, ◌%◌, ◌^◌, ◌<◌, ◌≤◌, Bool, true, false, cond, ◌&&◌, ◌||◌, ◌==◌, not, eqb, refl, sym, ap, ◌∙◌, ap₂, arith}
+use mir.Val.{bool_byte}
 use lib.Bits.{bit_and, bit_or}
 use Rattle.std.proofs.lemmas.Bool.Decides.{nat_tests}
 use Rattle.labels.specs.Sets.{has, single, difference}
-use Rattle.labels.proofs.Member.{has_above, has_and, has_full, has_none, has_or, has_single, has_zero, members}
+use Rattle.labels.proofs.Member.{has_above, has_full, has_none, has_or, has_single, has_zero, members}
 use Rattle.labels.proofs.Card.{ext}
-use Rattle.labels.proofs.Words.{and_not_is, single_below}
+use Rattle.labels.proofs.Words.{and_not_is, shl_is, single_below}
 use Rattle.label_words.specs.Words.{word_of}
 use Rattle.label_words.proofs.Held.{word_in}
 
@@ -45,19 +46,14 @@ carried_bits s n gy gn x w b ky kn f g p q =
     has_or (bit_and s (bit_or x gn)) (bit_and (bit_and w gy) n) b ∙ ap₂ (λ (i j : Bool). i || j) u v
 
 -- a label put in or left out, without a branch
-pub set_to : (s l x w b : ℕ) (k : Bool) → 1 ≤ l → l ≤ 64 → s < 2 ^ 64 → x ≡ single l → w ≡ all_or_none k
-    → has (bit_or (bit_and s (18446744073709551615 - x)) (bit_and x w)) b ≡ cond (b == l) k (has s b)
-set_to s l x w b k p q f h v =
-    has_or (bit_and s (18446744073709551615 - x)) (bit_and x w) b
-    ∙ ap₂ (λ (i j : Bool). i || j) (left_out s l x b p q f h) (has_and x w b ∙ ap₂ (λ (y z : ℕ). has y b && has z b) h v ∙ one_bit)
-    ∙ both k
+pub set_to : (s l x b : ℕ) (k : Bool) → 1 ≤ l → l ≤ 64 → s < 2 ^ 64 → x ≡ single l
+    → has (bit_or (bit_and s (18446744073709551615 - x)) ((bool_byte k * 2 ^ (l - 1)) % 2 ^ 64)) b ≡ cond (b == l) k (has s b)
+set_to s l x b k p q f h =
+    has_or (bit_and s (18446744073709551615 - x)) ((bool_byte k * 2 ^ (l - 1)) % 2 ^ 64) b ∙ ap₂ (λ (i j : Bool). i || j) (left_out s l x b p q f h) (one_bit k) ∙ both k
   where
-    one_bit : (has (single l) b && has (all_or_none k) b) ≡ ((b == l) && k)
-    one_bit = let u = has_all k (single l) b (single_below 64 l p q) in let r = has_single l b p in go (has (single l) b) refl u r
-      where
-        go : (i : Bool) → has (single l) b ≡ i → (has (single l) b ≡ true → has (all_or_none k) b ≡ k) → has (single l) b ≡ eqb l b → (i && has (all_or_none k) b) ≡ ((b == l) && k)
-        go true e u r = u e ∙ (let t : eqb l b ≡ true = sym r ∙ e in grind (arith, nat_tests))
-        go false e u r = let t : eqb l b ≡ false = sym r ∙ e in grind (arith, nat_tests)
+    one_bit : (k : Bool) → has ((bool_byte k * 2 ^ (l - 1)) % 2 ^ 64) b ≡ ((b == l) && k)
+    one_bit true = ap (λ (w : ℕ). has w b) (shl_is 64 l p q) ∙ has_single l b p ∙ grind (arith, nat_tests)
+    one_bit false = ap (λ (w : ℕ). has w b) (let z : (0 * 2 ^ (l - 1)) % 2 ^ 64 ≡ 0 = omega arith in z) ∙ has_none b ∙ grind (arith, nat_tests)
 
     both : (k : Bool) → (cond (b == l) false (has s b) || ((b == l) && k)) ≡ cond (b == l) k (has s b)
     both k = grind (arith, nat_tests)

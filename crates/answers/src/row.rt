@@ -11,7 +11,6 @@ pub struct Row {
 }
 
 /// All labels or none.
-// The compiler makes no branch of it: rows are carried for each label of the set at each exchange, and no branch there would be foreseen.
 fn all(held: bool) -> u64
     ensures { result ≡ cond held 18446744073709551615 0 }
 {
@@ -19,12 +18,13 @@ fn all(held: bool) -> u64
 }
 
 /// `set` with `label`, or without it.
+// The compiler makes no branch of this, nor of `all`: rows are carried for each label of the set at each exchange, where no branch would be foreseen.
 pub(crate) fn with(set: u64, label: u8, held: bool) -> u64
     requires { (1 ≤ label) × (label ≤ 64) }
     ensures { (b : ℕ) → has result b ≡ cond (b == label) held (has set b) }
 {
     let one = inserted(0, label);
-    set & !one | one & all(held)
+    set & !one | (held as u64) << (label - 1)
 }
 
 impl Row {

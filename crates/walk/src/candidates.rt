@@ -1,4 +1,4 @@
-ghost use Rattle.std.specs.Prelude.{◌≡◌, ℕ, ◌≤◌, true, MatchOption};
+ghost use Rattle.std.specs.Prelude.{◌≡◌, ℕ, ◌<◌, ◌≤◌, true, MatchOption};
 ghost use Rattle.labels.specs.Sets.{has, swap};
 ghost use Rattle.answer_laws.specs.Answers.{Right};
 ghost use Rattle.answers.specs.Table.{known};
@@ -51,6 +51,14 @@ fn candidates<P: Matroid>(matroid: &P, answers: &mut Answers, present: u64, labe
     found
 }
 
+/// The labels up to the first that is not on the side of label 1: none of them has a label below it on the other side.
+fn alike(present: u64) -> u64
+    ensures { (d o : ℕ) → has result d ≡ true → 1 ≤ o → o < d → has present o ≡ has present d }
+{
+    let changes = present ^ (present >> 1);
+    full_to(changes.trailing_zeros() as u8 + 1)
+}
+
 /// The lowest of the labels `active` that has a candidate, with its candidates.
 pub(crate) fn movable<P: Matroid>(matroid: &P, answers: &mut Answers, present: u64, active: u64) -> Option<(u8, u64)>
     requires known { Right (P.Matroid.independent matroid.now) present (known answers.old) }
@@ -59,7 +67,8 @@ pub(crate) fn movable<P: Matroid>(matroid: &P, answers: &mut Answers, present: u
         (λ x. Movable (P.Matroid.size matroid.now) (P.Matroid.independent matroid.now) present active x.0 x.1) }
     ensures known { Right (P.Matroid.independent matroid.now) present (known answers.new) }
 {
-    for label in labels_of(active & full_to(matroid.size())) {
+    let promising = active & !alike(present);
+    for label in labels_of(promising & full_to(matroid.size())) {
         let found = candidates(matroid, answers, present, label);
         if found != 0 {
             return Some((label, found));
