@@ -101,62 +101,84 @@ static bool differ(const struct outcome *a, const struct outcome *b)
     return a->count != b->count || a->digest != b->digest || a->across != b->across || a->along != b->along;
 }
 
-/* The shortest of some rounds, in nanoseconds; as many as a third of a second has, and five at least. */
-#define TIMED(shortest, rounds, call)                                                \
-    do {                                                                             \
-        double all = 0;                                                              \
-        shortest = 1e300;                                                            \
-        for (rounds = 0; rounds < LEAST_ROUNDS || all < LEAST_TIME; rounds++) {      \
-            double began = now();                                                    \
-            if (!(call))                                                             \
-                return false;                                                        \
-            double took = now() - began;                                             \
-            all += took;                                                             \
-            if (took < shortest)                                                     \
-                shortest = took;                                                     \
-        }                                                                            \
-    } while (0)
-
-/* What a base cost, and how much was asked for it. */
-struct cost {
-    double bases, questions, proved, plain;
+/* A walk by the proved code and by the reference: over a rig, or over words where there is none. */
+struct task {
+    const char *name;
+    const struct rig *rig;
+    walk_on_seams *seams[2];
+    const uint64_t *words;
+    size_t labels;
+    uint64_t most;
 };
 
-static bool compared(const char *name, const struct outcome *proved, const struct outcome *plain, double p, double q, uint64_t questions, struct cost *cost)
+enum { PROVED, PLAIN };
+
+static bool walked(const struct task *t, int which, struct outcome *outcome)
 {
-    if (differ(proved, plain)) {
-        printf("%s: the lists differ\n", name);
+    static walk_on_buttons *const buttons[2] = {timed_buttons, reference_buttons};
+    return t->rig ? t->seams[which](t->rig->points, t->rig->ends, 2 * t->rig->n, t->most, outcome) : buttons[which](t->words, t->labels, t->most, outcome);
+}
+
+/* What a base cost in the shortest of some rounds, in nanoseconds (as many rounds as a third of a second has, and five at least);
+   and how many questions the reference put for it, if it is that. Negative where the walk is refused. */
+static double shortest(const struct task *t, int which, struct outcome *outcome, double *questions)
+{
+    double all = 0, least = 1e300;
+    uint64_t rounds = 0;
+    reference_asked();
+    for (; rounds < LEAST_ROUNDS || all < LEAST_TIME; rounds++) {
+        double began = now();
+        if (!walked(t, which, outcome))
+            return -1;
+        double took = now() - began;
+        all += took;
+        if (took < least)
+            least = took;
+    }
+    *questions = (double)(reference_asked() / rounds) / (double)outcome->count;
+    return least / (double)outcome->count;
+}
+
+/* What a base cost, and how much was asked for it; and both for a reference that remembers nothing. */
+struct cost {
+    double bases, questions, proved, plain, more_questions, anew;
+};
+
+static bool measured(const struct task *t, struct cost *cost)
+{
+    struct outcome a, b, c;
+    double none;
+    reference_forgets(true);
+    cost->anew = shortest(t, PLAIN, &c, &cost->more_questions);
+    reference_forgets(false);
+    cost->plain = shortest(t, PLAIN, &b, &cost->questions);
+    cost->proved = shortest(t, PROVED, &a, &none);
+    cost->bases = (double)a.count;
+    if (cost->anew < 0 || cost->plain < 0 || cost->proved < 0 || differ(&a, &b) || differ(&b, &c)) {
+        printf("%s: the lists differ\n", t->name);
         return false;
     }
-    double bases = (double)proved->count;
-    *cost = (struct cost){bases, (double)questions / bases, p / bases, q / bases};
     return true;
 }
 
 static void print_cost(const char *name, const struct cost *c)
 {
-    printf("%-34s %9.0f %10.2f %10.1f %10.1f %8.2f\n", name, c->bases, c->questions, c->proved, c->plain, c->proved / c->plain);
+    printf("%-32s %8.0f %9.2f %9.1f %9.1f %6.2f %11.2f %9.1f\n", name, c->bases, c->questions, c->proved, c->plain, c->proved / c->plain, c->more_questions, c->anew);
 }
 
-static bool measured(const struct rig *r, uint64_t most, walk_on_seams *proved, walk_on_seams *plain, struct cost *cost)
-{
-    struct outcome a, b;
-    double p, q;
-    uint64_t rounds, asked;
-    reference_asked();
-    TIMED(q, rounds, plain(r->points, r->ends, 2 * r->n, most, &b));
-    asked = reference_asked() / rounds;
-    TIMED(p, rounds, proved(r->points, r->ends, 2 * r->n, most, &a));
-    return compared(r->name, &a, &b, p, q, asked, cost);
-}
-
-static bool seams(const struct rig *r, uint64_t most, walk_on_seams *proved, walk_on_seams *plain)
+static bool printed(const struct task *t)
 {
     struct cost cost;
-    if (!measured(r, most, proved, plain, &cost))
+    if (!measured(t, &cost))
         return false;
-    print_cost(r->name, &cost);
+    print_cost(t->name, &cost);
     return true;
+}
+
+static bool seams(const struct rig *r, walk_on_seams *proved, walk_on_seams *plain)
+{
+    struct task t = {.name = r->name, .rig = r, .seams = {proved, plain}, .most = UINT64_MAX};
+    return printed(&t);
 }
 
 /* The mean over some random rigs of one size, which differ much among themselves; each counts alike. */
@@ -166,12 +188,15 @@ static bool random_rigs(const char *name, int points, int seams, struct cost *me
     for (int i = 0; i < RANDOM_RIGS; i++) {
         struct rig r = sparse(name, points, seams);
         struct cost cost;
-        if (!measured(&r, CUT, timed_seams, reference_seams, &cost))
+        struct task t = {.name = name, .rig = &r, .seams = {timed_seams, reference_seams}, .most = CUT};
+        if (!measured(&t, &cost))
             return false;
         mean->bases += cost.bases / RANDOM_RIGS;
         mean->questions += cost.questions / RANDOM_RIGS;
         mean->proved += cost.proved / RANDOM_RIGS;
         mean->plain += cost.plain / RANDOM_RIGS;
+        mean->more_questions += cost.more_questions / RANDOM_RIGS;
+        mean->anew += cost.anew / RANDOM_RIGS;
     }
     print_cost(name, mean);
     return true;
@@ -190,20 +215,10 @@ static bool growth(void)
 static bool buttons(const char *name, int places, int labels)
 {
     uint64_t words[MOST_LABELS];
-    struct outcome a, b;
-    double p, q;
-    uint64_t rounds, asked;
-    struct cost cost;
     for (int i = 0; i < labels; i++)
         words[i] = random_number() & ((1ull << places) - 1);
-    reference_asked();
-    TIMED(q, rounds, reference_buttons(words, (size_t)labels, CUT, &b));
-    asked = reference_asked() / rounds;
-    TIMED(p, rounds, timed_buttons(words, (size_t)labels, CUT, &a));
-    if (!compared(name, &a, &b, p, q, asked, &cost))
-        return false;
-    print_cost(name, &cost);
-    return true;
+    struct task t = {.name = name, .words = words, .labels = (size_t)labels, .most = CUT};
+    return printed(&t);
 }
 
 int main(void)
@@ -212,15 +227,15 @@ int main(void)
     struct rig k7 = complete("complete rig of 7 points", 7), k8 = complete("complete rig of 8 points", 8);
     struct rig g34 = grid("grid 3x4", 3, 4), g44 = grid("grid 4x4", 4, 4), w12 = wheel("wheel of 12", 12);
     struct rig d7 = complete("dual of the complete rig of 7", 7), p7 = complete("three layers over the rig of 7", 7);
-    printf("%-34s %9s %10s %10s %10s %8s\n", "rig", "bases", "questions", "proved ns", "plain ns", "ratio");
-    fine &= seams(&k7, UINT64_MAX, timed_seams, reference_seams);
-    fine &= seams(&k8, UINT64_MAX, timed_seams, reference_seams);
-    fine &= seams(&g34, UINT64_MAX, timed_seams, reference_seams);
-    fine &= seams(&g44, UINT64_MAX, timed_seams, reference_seams);
-    fine &= seams(&w12, UINT64_MAX, timed_seams, reference_seams);
+    printf("%-32s %8s %9s %9s %9s %6s %11s %9s\n", "rig", "bases", "questions", "proved ns", "plain ns", "ratio", "asked anew", "anew ns");
+    fine &= seams(&k7, timed_seams, reference_seams);
+    fine &= seams(&k8, timed_seams, reference_seams);
+    fine &= seams(&g34, timed_seams, reference_seams);
+    fine &= seams(&g44, timed_seams, reference_seams);
+    fine &= seams(&w12, timed_seams, reference_seams);
     fine &= buttons("buttons, rank 20, 40 labels", 20, 40);
-    fine &= seams(&d7, UINT64_MAX, timed_dual, reference_dual);
-    fine &= seams(&p7, UINT64_MAX, timed_pile, reference_pile);
+    fine &= seams(&d7, timed_dual, reference_dual);
+    fine &= seams(&p7, timed_pile, reference_pile);
     fine &= growth();
     return fine ? 0 : 1;
 }

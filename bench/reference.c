@@ -1,5 +1,6 @@
-/* The same walk without a proof, for comparison: active labels, the tie rule closest, shifts as measure, independence by
-   elimination over 64-bit words with a pivot by the highest bit. Nothing here is cleverer than the proved code. */
+/* The same walk without a proof, for comparison: active labels, the tie rule closest, shifts as measure, what is known of the present
+   set's swaps, independence by elimination over 64-bit words with a pivot by the highest bit. Nothing here is cleverer than the proved
+   code. With `reference_forgets` it asks its matroid everything anew, so that what the memory saves can be seen. */
 #include "elimination.h"
 #include "walks.h"
 
@@ -16,6 +17,12 @@ struct matroid {
 typedef int question(const struct matroid *, uint64_t);
 
 static uint64_t asked;
+static bool forgets;
+
+void reference_forgets(bool all)
+{
+    forgets = all;
+}
 
 uint64_t reference_asked(void)
 {
@@ -81,9 +88,15 @@ static int pile(const struct matroid *m, uint64_t set)
     return __builtin_popcountll(set) <= m->most && dual_of(m, in_minor, set);
 }
 
+/* Of a label of the present set: the labels outside it with which a swap is known to lead to an independent set, or not to. */
+struct row {
+    uint64_t yes, no;
+};
+
 struct walk {
     uint64_t present, active, count;
     int64_t value[2], total[2];
+    struct row rows[48];
 };
 
 static inline void gain(int64_t to[2], int label, int64_t sign)
@@ -98,14 +111,40 @@ static inline void add(int64_t to[2], const int64_t value[2])
     to[1] = (int64_t)((uint64_t)to[1] + (uint64_t)value[1]);
 }
 
+/* Whether the labels a, of the present set, and b, outside it, can be swapped. */
+static inline int swaps(const struct matroid *m, question *independent, struct walk *w, int a, int b)
+{
+    struct row *row = &w->rows[a - 1];
+    if (!forgets && ((row->yes | row->no) & bit(b)))
+        return (row->yes & bit(b)) != 0;
+    int answer = independent(m, w->present ^ (bit(a) | bit(b)));
+    *(answer ? &row->yes : &row->no) |= bit(b);
+    return answer;
+}
+
 /* All candidates of the label e. */
-static inline uint64_t candidates(const struct matroid *m, question *independent, uint64_t present, int e)
+static inline uint64_t candidates(const struct matroid *m, question *independent, struct walk *w, int e)
 {
     uint64_t found = 0;
+    int in = (w->present & bit(e)) != 0;
     for (int f = 1; f < e; f++)
-        if (!(present & bit(e)) != !(present & bit(f)) && independent(m, present ^ (bit(e) | bit(f))))
+        if (((w->present & bit(f)) == 0) == in && (in ? swaps(m, independent, w, e, f) : swaps(m, independent, w, f, e)))
             found |= bit(f);
     return found;
+}
+
+/* What is still known once `leaving` went out and `entering` came in. */
+static inline void carry(struct walk *w, int leaving, int entering)
+{
+    struct row gone = w->rows[leaving - 1];
+    for (uint64_t left = w->present & ~bit(leaving); left; left &= left - 1) {
+        struct row *row = &w->rows[__builtin_ctzll(left)];
+        uint64_t yes = row->yes >> (entering - 1) & 1, no = row->no >> (entering - 1) & 1;
+        uint64_t stays = -no | gone.no, turns = -yes & gone.yes & row->no;
+        row->yes = (((row->yes & stays) | turns) & ~bit(leaving)) | yes << (leaving - 1);
+        row->no = (row->no & stays & ~bit(leaving)) | no << (leaving - 1);
+    }
+    w->rows[entering - 1] = (struct row){gone.yes | bit(leaving), gone.no & ~bit(leaving)};
 }
 
 static inline __attribute__((always_inline)) void walk(const struct matroid *m, question *independent, uint64_t most, struct outcome *outcome)
@@ -123,7 +162,7 @@ static inline __attribute__((always_inline)) void walk(const struct matroid *m, 
         uint64_t found = 0;
         int e;
         for (e = 1; e <= m->n; e++)
-            if ((w.active & bit(e)) && (found = candidates(m, independent, w.present, e)))
+            if ((w.active & bit(e)) && (found = candidates(m, independent, &w, e)))
                 break;
         if (e > m->n)
             break;
@@ -131,6 +170,8 @@ static inline __attribute__((always_inline)) void walk(const struct matroid *m, 
         int came = !(w.present & bit(e));
         gain(w.value, came ? e : f, 1);
         gain(w.value, came ? f : e, -1);
+        if (!forgets)
+            carry(&w, came ? f : e, came ? e : f);
         w.present ^= bit(e) | bit(f);
         w.active = (w.active & ~full(e)) | full(e - 1);
         w.count++;

@@ -16,3 +16,6 @@ walk_on_buttons timed_buttons, reference_buttons;
 
 /* How many questions the reference has put to its matroid since it was last asked; the proved walk puts the same. */
 uint64_t reference_asked(void);
+
+/* Whether the reference is to ask everything anew, and to remember nothing of what it asked. */
+void reference_forgets(bool all);

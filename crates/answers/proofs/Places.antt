@@ -1,5 +1,5 @@
 -- The rows of a table.
-use Rattle.std.proofs.Common.{◌≡◌, ℕ, zero, suc, ◌-◌, ◌<◌, ◌≤◌, Bool, true, false, cond, ◌&&◌, ◌||◌, ◌==◌, not, List, [], ◌∷◌, length, replicate, slice_index_or, slice_set, sym, refl, ap, ◌∙◌, ap₂, arith, get_or-set_other, get_or-set_same}
+use Rattle.std.proofs.Common.{◌≡◌, ℕ, zero, suc, ◌-◌, ◌<◌, ◌≤◌, Bool, true, cond, ◌&&◌, ◌==◌, not, List, [], ◌∷◌, length, replicate, slice_set, sym, refl, ap, ◌∙◌, ap₂, arith, get_or-set_other, get_or-set_same}
 use native.Mathlib.Decide.{ℕ_discrete}
 use native.Mathlib.Numerals.{unary_clauses}
 use Rattle.std.proofs.lemmas.Bool.Decides.{nat_tests}
@@ -7,7 +7,6 @@ use Rattle.labels.specs.Sets.{has, limit}
 use Rattle.labels.proofs.Member.{has_none}
 use Rattle.answer_laws.specs.Answers.{Answers as Known, none, noted}
 use Rattle.answers.specs.declared.row.Row.{Row}
-
 use Rattle.answers.specs.Table.{is_label, row_of, known_in}
 
 abbrev blank : Row

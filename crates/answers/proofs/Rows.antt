@@ -1,9 +1,9 @@
 -- The bits of a row.
-use Rattle.std.proofs.Common.{◌≡◌, ℕ, zero, suc, ◌-◌, ◌*◌, ◌%◌, ◌^◌, ◌<◌, ◌≤◌, Bool, true, false, cond, ◌&&◌, ◌||◌, ◌==◌, not, eqb, refl, sym, ap, ◌∙◌, ap₂, arith}
+use Rattle.std.proofs.Common.{◌≡◌, ℕ, zero, suc, ◌-◌, ◌*◌, ◌%◌, ◌^◌, ◌<◌, ◌≤◌, Bool, true, false, cond, ◌&&◌, ◌||◌, ◌==◌, ap, ◌∙◌, ap₂, arith}
 use mir.Val.{bool_byte}
 use lib.Bits.{bit_and, bit_or}
 use Rattle.std.proofs.lemmas.Bool.Decides.{nat_tests}
-use Rattle.labels.specs.Sets.{has, single, difference}
+use Rattle.labels.specs.Sets.{has, single}
 use Rattle.labels.proofs.Member.{has_above, has_full, has_none, has_or, has_single, has_zero, members}
 use Rattle.labels.proofs.Card.{ext}
 use Rattle.labels.proofs.Words.{and_not_is, shl_is, single_below}

@@ -1,5 +1,5 @@
 -- The rows of a set, one by one, carried over a swap.
-use Rattle.std.proofs.Common.{◌≡◌, ℕ, zero, suc, ◌-◌, ◌^◌, ◌<◌, ◌≤◌, Bool, true, false, cond, not, ◌&&◌, ◌||◌, ◌==◌, List, [], ◌∷◌, ◌⊎◌, length, slice_set, inl, inr, sym, refl, ap, ◌∙◌, subst, ap₂, arith, length-set}
+use Rattle.std.proofs.Common.{◌≡◌, ℕ, ◌-◌, ◌^◌, ◌<◌, ◌≤◌, Bool, true, false, cond, not, ◌&&◌, ◌||◌, ◌==◌, List, [], ◌∷◌, ◌⊎◌, length, slice_set, inl, inr, sym, refl, ap, ◌∙◌, ap₂, arith, length-set}
 use lib.Bits.{bit_and, bit_or, bit_xor, or_lt}
 use native.Mathlib.Decide.{ℕ_discrete}
 use Rattle.std.proofs.lemmas.Bool.{cases_lt}
@@ -12,7 +12,7 @@ use Rattle.labels.proofs.Words.{and_not_is, single_below}
 use Rattle.label_words.specs.Words.{word_of}
 use Rattle.label_words.proofs.Ascending.{word_left}
 use Rattle.label_words.proofs.Held.{word_in}
-use Rattle.answer_laws.specs.Answers.{Answers as Known, carried}
+use Rattle.answer_laws.specs.Answers.{carried}
 use Rattle.answers.specs.declared.row.Row.{Row}
 use Rattle.answers.specs.Table.{known_in, row_of}
 use Rattle.answers.proofs.Places.{known_is, row_put, row_other, row_none}

@@ -1,6 +1,6 @@
 -- What the loops of a walk answer, in the words of the specs.
 use Rattle.std.proofs.Common.{◌≡◌, ℕ, zero, suc, ◌+◌, ◌-◌, ◌/◌, ◌^◌, ◌<◌, ◌≤◌, ◌⊎◌, min, leb, Bool, true, false, cond, not, eqb, ◌&&◌, List, ◌∷◌, Some, None, inl, inr, sym, refl, ap, ◌∙◌, subst, arith}
-use lib.Bits.{bit_and, bit_or, bit_xor, xor_lt}
+use lib.Bits.{bit_and, bit_xor, xor_lt}
 use lib.Count.{count_trailing_zeros}
 use Rattle.std.proofs.lemmas.Bool.{and_parts, both_ways, cases_Bool}
 use Rattle.std.specs.List.{find, fold}
@@ -11,10 +11,7 @@ use Rattle.labels.proofs.Upwards.{FirstListed, find_listed, fold_labels}
 use Rattle.labels.proofs.Member.{bit_up, has_difference, has_full, has_none, has_pos, has_xor}
 use Rattle.labels.proofs.Card.{ext}
 use Rattle.labels.proofs.Passing.{has_passing}
-use Rattle.labels.proofs.Swap.{swap_comm}
-use Rattle.labels.proofs.Words.{and_not_is, has_outside, trailing_is}
-use Rattle.label_words.specs.Words.{word_of}
-use Rattle.label_words.proofs.Held.{word_in, swap_is}
+use Rattle.labels.proofs.Words.{and_not_is, trailing_is}
 use Rattle.walk_laws.specs.Settings.{summed}
 use Rattle.walk.specs.States.{Movable, partners, swappable}
 

@@ -92,11 +92,9 @@ impl<P: Matroid, R: TieRule, M: Measure> Walk<P, R, M> {
             came,
         };
         let value = self.value_after(exchange);
-        self.answers.carry(
-            self.view.present,
-            exchange.leaving(),
-            exchange.entering(),
-        );
+        let present = self.view.present;
+        self.answers
+            .carry(present, exchange.leaving(), exchange.entering());
         let view = &mut self.view;
         view.present = swapped(view.present, label, low);
         view.active = reopened(view.active, label);
@@ -114,12 +112,12 @@ impl<P: Matroid, R: TieRule, M: Measure> Walk<P, R, M> {
         ensures call { Call (setting_of P.Matroid R.TieRule M.Measure self.old) (state_of self.old) (advanced result) (handed result (state_of self.new)) (state_of self.new) }
         ensures cases { MatchOption result (state_of self.new ≡ state_of self.old) (λ _. self.new.view.count ≡ self.old.view.count + 1) }
     {
-        let (label, found) = movable(
-            &self.matroid,
-            &mut self.answers,
-            self.view.present,
-            self.view.active,
-        )?;
+        let View {
+            present,
+            active,
+            ..
+        } = self.view;
+        let (label, found) = movable(&self.matroid, &mut self.answers, present, active)?;
         Some(self.exchange(label, found))
     }
 

@@ -9,7 +9,13 @@ use label_words::{contains, full_to, inserted, labels_of, swapped};
 use matroid::Matroid;
 
 /// Asks whether swapping `inside`, of the set `present`, with `outside` leads to an independent set, and notes the answer.
-fn ask<P: Matroid>(matroid: &P, answers: &mut Answers, present: u64, inside: u8, outside: u8) -> bool
+fn ask<P: Matroid>(
+    matroid: &P,
+    answers: &mut Answers,
+    present: u64,
+    inside: u8,
+    outside: u8,
+) -> bool
     requires known { Right (P.Matroid.independent matroid.now) present (known answers.old) }
     requires inside { (1 ≤ inside) × (inside ≤ 64) }
     requires outside { (1 ≤ outside) × (outside ≤ 64) }
@@ -39,11 +45,7 @@ fn candidates<P: Matroid>(matroid: &P, answers: &mut Answers, present: u64, labe
     };
     let mut found = known.yes & others;
     for other in labels_of(others & !(known.yes | known.no)) {
-        let (inside, outside) = if came {
-            (other, label)
-        } else {
-            (label, other)
-        };
+        let (inside, outside) = if came { (other, label) } else { (label, other) };
         if ask(matroid, answers, present, inside, outside) {
             found = inserted(found, other);
         }
@@ -60,7 +62,12 @@ fn alike(present: u64) -> u64
 }
 
 /// The lowest of the labels `active` that has a candidate, with its candidates.
-pub(crate) fn movable<P: Matroid>(matroid: &P, answers: &mut Answers, present: u64, active: u64) -> Option<(u8, u64)>
+pub(crate) fn movable<P: Matroid>(
+    matroid: &P,
+    answers: &mut Answers,
+    present: u64,
+    active: u64,
+) -> Option<(u8, u64)>
     requires known { Right (P.Matroid.independent matroid.now) present (known answers.old) }
     ensures found { MatchOption result
         ((d : ℕ) → 1 ≤ d → d ≤ P.Matroid.size matroid.now → has active d ≡ true → partners (P.Matroid.independent matroid.now) present d ≡ 0)

@@ -1,6 +1,6 @@
 use Rattle.std.proofs.Common.{Bool, sym, ap, ◌∙◌, subst}
 use Rattle.label_words.proofs.Held.{swap_is}
-use Rattle.answer_laws.specs.Answers.{Answers, Right, noted}
+use Rattle.answer_laws.specs.Answers.{Right, noted}
 use Rattle.answer_laws.proofs.Right.{noted_right}
 use Rattle.answers.specs.Table.{known}
 use Rattle.walk.proofs.Known.{either_right}

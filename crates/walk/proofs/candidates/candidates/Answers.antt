@@ -1,11 +1,10 @@
-use Rattle.std.proofs.Common.{rules, ◌≡◌, ℕ, ◌-◌, ◌<◌, ◌≤◌, true, false, Bool, List, ◌∷◌, ◌==◌, cond, sym, refl, ap, ◌∙◌, subst, arith, bit_and}
-use lib.Bits.{bit_or, bit_xor}
-use Rattle.labels.specs.Sets.{has, differs, single, swap}
-use Rattle.label_words.specs.Words.{word_of}
+use Rattle.std.proofs.Common.{rules, ◌≡◌, ℕ, ◌<◌, ◌≤◌, sym, ap, ◌∙◌, subst, bit_and}
+use lib.Bits.{bit_xor}
+use Rattle.labels.specs.Sets.{has, single, swap}
 use Rattle.answers.specs.declared.row.Row.{Row}
 use Rattle.answers.specs.Table.{known}
 use Rattle.answers.proofs.Columns.{gathered_more, gathered_all, left_is, next_is, not_yet}
-use Rattle.walk.proofs.Known.{Beside, Tells, beside_in, beside_out, beside_tells, column_tells, found_more, found_same, in_word, known_first, partners_are, row_tells, swap_as, swap_back, unknown}
+use Rattle.walk.proofs.Known.{Beside, Tells, beside_in, beside_out, column_tells, found_more, found_same, in_word, known_first, partners_are, row_tells, swap_as, swap_back, unknown}
 use Rattle.walk.proofs.candidates.candidates.Goals.{then-came, else-came, then-came-2, else-came-2, then-came-3, else-came-3}
 use Rattle.walk.proofs.candidates.candidates.Goals as goal
 

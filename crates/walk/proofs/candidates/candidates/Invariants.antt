@@ -1,4 +1,4 @@
-use Rattle.std.proofs.Common.{◌≡◌, ℕ, ◌-◌}
+use Rattle.std.proofs.Common.{◌≡◌, ℕ}
 use Rattle.labels.specs.Sets.{swap}
 use Rattle.labels.specs.Listed.{labels_in}
 use Rattle.answer_laws.specs.Answers.{Right}

@@ -1,4 +1,4 @@
-use Rattle.std.proofs.Common.{rules, ◌≡◌, ◌<◌, ◌==◌, Bool, cond, ap, ◌∙◌, ap₂}
+use Rattle.std.proofs.Common.{rules, ◌<◌, ◌==◌, Bool, cond, ap, ◌∙◌, ap₂}
 use Rattle.answers.proofs.Rows.{all_or_none, carried_bits, stays_bits}
 use Rattle.answers.proofs.row.Row.carried.Goals as goal
 

@@ -1,7 +1,6 @@
-use Rattle.std.proofs.Common.{◌≡◌, ℕ, List, Bool, cond, ◌==◌, ◌&&◌, bit_and, sym, ap, ◌∙◌, subst, arith, bit_xor}
+use Rattle.std.proofs.Common.{ℕ, Bool, cond, ◌==◌, bit_and, sym, ap, ◌∙◌, arith, bit_xor}
 use Rattle.labels.specs.Sets.{has, full, limit, single}
 use Rattle.labels.specs.Listed.{labels_in}
-use Rattle.answers.specs.Table.{row_of}
 use Rattle.answers.specs.declared.row.Row.{Row}
 use Rattle.answers.proofs.Columns.{gathered_none, gathered_more, gathered_all, looked_at, left_is, in_limit, limited, yes_in_rows, no_in_rows}
 use Rattle.answers.proofs.table.Answers.column.Goals as goal

@@ -1,6 +1,6 @@
-use Rattle.std.proofs.Common.{Bool, cond, ◌==◌, not, sym, ap, ◌∙◌, arith}
+use Rattle.std.proofs.Common.{cond, ◌==◌, not, sym, ap, ◌∙◌, arith}
 use Rattle.labels.specs.Sets.{has}
-use Rattle.answers.specs.Table.{known, known_in, row_of}
+use Rattle.answers.specs.Table.{known, known_in}
 use Rattle.answers.specs.declared.row.Row.{Row}
 use Rattle.answers.proofs.Places.{label_low, noted_is, where_labels}
 use Rattle.answers.proofs.table.Answers.note.Goals as goal
