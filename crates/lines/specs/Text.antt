@@ -1,16 +1,21 @@
 -- The lines that are printed, as the bytes of their text, without the line feed at the end.
-use Rattle.std.specs.Prelude.{ℕ, zero, suc, cond, List, [], ◌∷◌, ◌++◌, ℤ, codes, decimal}
+use Rattle.std.specs.Prelude.{ℕ, zero, suc, cond, List, [], ◌∷◌, ◌++◌, ℤ, codes, decimal, take}
 use Rattle.std.specs.Fmt.{signed_decimal}
 use Rattle.labels.specs.Sets.{has}
+use Rattle.lines.specs.declared.label_text.TheConstants.{LABEL_ROOM}
 
 -- a label, after a space
 abbrev pub label_text : ℕ → List ℕ
 label_text e = codes " " ++ decimal e
 
--- the texts of so many labels, from the first on
-abbrev pub texts_from : ℕ → ℕ → List (List ℕ)
-texts_from first zero = []
-texts_from first (suc n) = label_text first ∷ texts_from (suc first) n
+-- the same, with spaces as far as its room goes
+abbrev pub padded : ℕ → List ℕ
+padded e = take LABEL_ROOM (label_text e ++ codes "  ")
+
+-- so many labels, from the first on
+abbrev pub padded_from : ℕ → ℕ → List (List ℕ)
+padded_from first zero = []
+padded_from first (suc n) = padded first ∷ padded_from (suc first) n
 
 -- those labels of 1..n that are in s, upwards, each after a space
 unfoldable pub labels_text : ℕ → ℕ → List ℕ

@@ -1,27 +1,37 @@
-ghost use Rattle.lines.specs.Text.{label_text, texts_from};
-ghost use Rattle.std.specs.Prelude.{◌≡◌, ◌≤◌, map};
+ghost use Rattle.lines.specs.Text.{label_text, padded_from};
+ghost use Rattle.std.specs.Prelude.{◌≡◌, ◌+◌, ◌≤◌, ◌++◌, length, take};
 
-/// Each label after a space.
-// A table: with `write!(f, " {label}")` the lister took 2,383 instructions for a chain of seven labels, and takes 1,983 so.
-static LABEL_TEXTS: [&str; 64] = [
-    " 1", " 2", " 3", " 4", " 5", " 6", " 7", " 8", " 9", " 10", " 11", " 12", " 13", " 14", " 15",
-    " 16", " 17", " 18", " 19", " 20", " 21", " 22", " 23", " 24", " 25", " 26", " 27", " 28",
-    " 29", " 30", " 31", " 32", " 33", " 34", " 35", " 36", " 37", " 38", " 39", " 40", " 41",
-    " 42", " 43", " 44", " 45", " 46", " 47", " 48", " 49", " 50", " 51", " 52", " 53", " 54",
-    " 55", " 56", " 57", " 58", " 59", " 60", " 61", " 62", " 63", " 64",
+/// How many bytes a label is written with: a space, its digits, and spaces.
+// A power of two, so that they are one store.
+pub(crate) const LABEL_ROOM: usize = 4;
+
+/// Each label after a space, and spaces after it.
+static LABEL_TEXTS: [[u8; LABEL_ROOM]; 64] = [
+    *b" 1  ", *b" 2  ", *b" 3  ", *b" 4  ", *b" 5  ", *b" 6  ", *b" 7  ", *b" 8  ", *b" 9  ",
+    *b" 10 ", *b" 11 ", *b" 12 ", *b" 13 ", *b" 14 ", *b" 15 ", *b" 16 ", *b" 17 ", *b" 18 ",
+    *b" 19 ", *b" 20 ", *b" 21 ", *b" 22 ", *b" 23 ", *b" 24 ", *b" 25 ", *b" 26 ", *b" 27 ",
+    *b" 28 ", *b" 29 ", *b" 30 ", *b" 31 ", *b" 32 ", *b" 33 ", *b" 34 ", *b" 35 ", *b" 36 ",
+    *b" 37 ", *b" 38 ", *b" 39 ", *b" 40 ", *b" 41 ", *b" 42 ", *b" 43 ", *b" 44 ", *b" 45 ",
+    *b" 46 ", *b" 47 ", *b" 48 ", *b" 49 ", *b" 50 ", *b" 51 ", *b" 52 ", *b" 53 ", *b" 54 ",
+    *b" 55 ", *b" 56 ", *b" 57 ", *b" 58 ", *b" 59 ", *b" 60 ", *b" 61 ", *b" 62 ", *b" 63 ",
+    *b" 64 ",
 ];
 
 /// All of them, in order.
-fn texts() -> &'static [&'static str; 64]
-    ensures { map (λ t. t.now) result.now ≡ texts_from 1 64 }
+fn texts() -> &'static [[u8; LABEL_ROOM]; 64]
+    ensures { result.now ≡ padded_from 1 64 }
 {
     &LABEL_TEXTS
 }
 
-/// The text of a label after a space.
-pub(crate) fn text_of(label: u8) -> &'static str
-    requires { (1 ≤ label) × (label ≤ 64) }
-    ensures { result.now ≡ label_text label }
+/// Puts a label after a space at `at`, and answers where it ends. Bytes beyond, as far as its room goes, may be written over.
+// As many bytes for any label: whether it has one digit or two is a guess that the machine loses once in most lines.
+pub(crate) fn put_label(out: &mut [u8], at: usize, label: u8) -> usize
+    requires { (1 ≤ label) × (label ≤ 64) × (at + LABEL_ROOM ≤ length out.old) }
+    ensures text { take result out.new ≡ take at out.old ++ label_text label }
+    ensures within { result ≤ at + LABEL_ROOM }
 {
-    texts()[label as usize - 1]
+    out[at..at + LABEL_ROOM].copy_from_slice(&texts()[label as usize - 1]);
+    // A space, and one digit or two.
+    if label < 10 { at + 2 } else { at + 3 }
 }

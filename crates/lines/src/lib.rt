@@ -1,15 +1,19 @@
 //! The lines that are printed, with what each of them says, byte for byte.
 #![tactic(auto)]
 
+mod filling;
 mod label_text;
 mod line;
+mod page;
 mod refused_line;
 mod set_text;
 #[cfg(test)]
 mod tests;
 mod total_line;
 
+pub use filling::PageFull;
 pub use line::Line;
+pub use page::Page;
 pub use refused_line::RefusedLine;
 pub use set_text::SetText;
 pub use total_line::TotalLine;

@@ -1,15 +1,18 @@
+ghost use Rattle.lines.specs.Pages.{page_text};
 ghost use Rattle.lines.specs.Text.{line_text};
-ghost use Rattle.std.specs.Prelude.{◌≡◌, IfOk, string_bytes};
+ghost use Rattle.std.specs.Prelude.{◌≡◌, ◌++◌, IfOk, codes};
 
 use super::*;
-use std::alloc::{AllocError, Global};
 use std::test::Fail;
 
-/// What a caller learns of the text.
-fn text_of(heap: Global, line: Line) -> Result<String, AllocError>
-    ensures { IfOk result (λ s. string_bytes s ≡ line_text line.count line.set) }
+/// What a caller learns of a page of two lines.
+fn two_lines(first: Line, second: Line) -> Result<Page, PageFull>
+    ensures { IfOk result (λ page. page_text page ≡ (line_text first.count first.set ++ codes "\n") ++ (line_text second.count second.set ++ codes "\n")) }
 {
-    line.to_string(heap)
+    let mut page = Page::new();
+    page.put(first)?;
+    page.put(second)?;
+    Ok(page)
 }
 
 #[test]
@@ -18,15 +21,37 @@ fn labels_upwards(rt: HostRuntime) -> Result<(), Fail> {
         count: 2,
         set: 0b101,
     };
-    assert_eq!(rt; text_of(rt.alloc(), two)?.as_str(), "2 1 3");
-    let none = Line { count: 1, set: 0 };
-    assert_eq!(rt; text_of(rt.alloc(), none)?.as_str(), "1");
     let ends = Line {
         count: 30,
         set: 1 << 63 | 1 << 9,
     };
-    assert_eq!(rt; format!(in rt.alloc(); "{ends};")?.as_str(), "30 10 64;");
+    assert!(rt; two_lines(two, ends)?.text() == b"2 1 3\n30 10 64\n".as_slice());
+    let none = Line { count: 1, set: 0 };
+    let most = Line {
+        count: u64::MAX,
+        set: 1 << 8,
+    };
+    assert!(rt; two_lines(none, most)?.text() == b"1\n18446744073709551615 9\n".as_slice());
     Ok(())
+}
+
+#[test]
+fn a_full_page(rt: HostRuntime) {
+    let line = Line {
+        count: u64::MAX,
+        set: u64::MAX,
+    };
+    let mut page = Page::new();
+    for _ in 0..50u8 {
+        let _ = page.put(line);
+    }
+    assert_eq!(rt; page.put(line), Err(PageFull));
+    // 39 lines of 204 bytes: 20 digits, 9 labels of one digit and 55 of two, a line feed.
+    assert_eq!(rt; page.text().len(), 39 * 204);
+    page.clear();
+    assert!(rt; page.text().is_empty());
+    assert_eq!(rt; page.put(line), Ok(()));
+    assert_eq!(rt; page.text().len(), 204);
 }
 
 #[test]

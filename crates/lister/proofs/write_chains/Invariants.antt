@@ -1,6 +1,6 @@
 use Rattle.std.proofs.Common.{◌-◌, ◌^◌}
 use Rattle.labels.specs.Sets.{limit}
-use Rattle.lister.proofs.write_all.Given as goal
+use Rattle.lister.proofs.write_chains.Given as goal
 
 -- each batch but the last raises the count
 abbrev pub decreases-loop-stop : goal.decreases-loop-stop
