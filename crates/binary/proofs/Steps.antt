@@ -1,15 +1,16 @@
 -- One turn of a reduction, and one turn through the labels.
-use Rattle.std.proofs.Common.{◌≡◌, ℕ, suc, ◌+◌, ◌-◌, ◌*◌, ◌/◌, ◌^◌, ◌<◌, ◌≤◌, true, false, ◌⊎◌, List, [], ◌∷◌, length, get_or, set, replicate, sym, refl, ap, ◌∙◌, subst, inl, inr, arith, pow_pos}
-use lib.Bits.{bit_xor}
-use lib.Count.{count_leading_zeros}
+use Rattle.std.proofs.Common.{◌≡◌, ℕ, suc, ◌+◌, ◌*◌, ◌/◌, ◌^◌, ◌<◌, ◌≤◌, true, false, ◌⊎◌, List, [], ◌∷◌, length, get_or, set, replicate, sym, ap, ◌∙◌, subst, inl, inr, arith, pow_pos}
+use lib.Bits.{bit_and, bit_xor}
 use native.Mathlib.Decide.{ℕ_discrete}
-use native.Mathlib.Nat.{div-eq_of_lt, lt-div-mul-add}
+use native.Mathlib.Nat.{zero-div, div-eq_of_lt, lt-div-mul-add}
 use Rattle.std.proofs.lemmas.Bool.{cases_Bool}
+use Rattle.std.proofs.lemmas.Bool.Decides.{nat_tests}
+use Rattle.std.proofs.lemmas.List.{length-replicate}
 use Rattle.labels.specs.Sets.{has, single, insert, difference, Subset}
 use Rattle.labels.proofs.Member.{has_pos, has_xor, has_none, members}
-use Rattle.labels.proofs.Card.{ext, within_back}
+use Rattle.labels.proofs.Card.{ext, top_is, within_back}
 use Rattle.labels.proofs.Order.{top_less}
-use Rattle.labels.proofs.Words.{leading_is}
+use Rattle.labels.proofs.Words.{shift_tests}
 use Rattle.labels.specs.Listed.{labels_in}
 use Rattle.labels.proofs.Upwards.{labels_none, labels_tell}
 use Rattle.label_words.proofs.Ascending.{word_left}
@@ -19,19 +20,9 @@ use Rattle.binary_laws.proofs.Reduction.{reduced_none, reduced_step}
 use Rattle.binary_laws.proofs.Laws.{means, meant, part_independent}
 use Rattle.binary_laws.proofs.Table.{Table, pivot_is, blank_table, grown_length, grown_table, refuses}
 
--- the place of a word's highest digit, from 0
-abbrev top_index : ℕ → ℕ
-top_index x = 63 - count_leading_zeros 64 x
-
-module _ (x : ℕ) (some : x ≡ 0 → ⊥) (fits : x < 2 ^ 64) where
-  top_place : Leading x (64 - count_leading_zeros 64 x)
-  top_place = let r = leading_is 64 x (omega arith) fits in record { on = r.0; above = r.1 }
-
-  pub few_zeros : count_leading_zeros 64 x ≤ 63
-  few_zeros = omega (arith, has_pos x (64 - count_leading_zeros 64 x) top_place.on)
-
-  pub leads : Leading x (suc (top_index x))
-  leads = subst (Leading x) (omega (arith, few_zeros)) top_place
+-- the place i, from 0, of the highest digit of a word
+pub leads : (x i : ℕ) → 2 ^ i ≤ x → x < 2 * 2 ^ i → Leading x (suc i)
+leads x i least most = let r = top_is i x least (omega arith) in record { on = r.0; above = r.1 }
 
 -- a pivot of the same highest place leaves less of a word
 xor_less : (x p k : ℕ) → Leading x k → Leading p k → bit_xor x p < x
@@ -43,48 +34,65 @@ xor_less x p k X P = top_less (bit_xor x p) x k (record {
 -- a reduction of w by the table ps has come to x
 pub record Reducing (ps qs : List ℕ) (w x : ℕ) : Type 0 where
   pub unchanged : qs ≡ ps
-  pub fits : x < 2 ^ 64
+  pub falling : x ≤ w
   pub same : reduced (pivot ps) places x ≡ reduced (pivot ps) places w
 
 module _ (ps qs : List ℕ) (w x : ℕ) (E : Echelon (pivot ps)) (R : Reducing ps qs w x) where
   pub at_end : x ≡ 0 → Vanishes ps w
   at_end z = sym R.same ∙ ap (reduced (pivot ps) places) z ∙ reduced_none (pivot ps) places
 
-  module _ (some : x ≡ 0 → ⊥) where
-    pub grows : get_or qs (top_index x) 0 ≡ 0 → Grown ps w (set qs (top_index x) x)
-    grows z = record {
+  -- the highest digit of what is left stands at i
+  module _ (i : ℕ) (L : Leading x (suc i)) where
+    -- no further up than the word has digits
+    pub inside : (n : ℕ) → w < 2 ^ n → i < n
+    inside n h = within_back n x (suc i) (omega (arith, R.falling)) L.on
+
+    pub grows : w < 2 ^ length ps → get_or qs i 0 ≡ 0 → Grown ps w (set qs i x)
+    grows h z = record {
       left = x;
-      index = top_index x;
-      low = omega arith;
+      index = i;
+      low = inside (length ps) h;
       same = R.same;
-      leads = leads x some R.fits;
-      vacant = ap (λ (rs : List ℕ). get_or rs (top_index x) 0) (sym R.unchanged) ∙ z;
-      stored = ap (λ (rs : List ℕ). set rs (top_index x) x) R.unchanged;
+      leads = L;
+      vacant = ap (λ (rs : List ℕ). get_or rs i 0) (sym R.unchanged) ∙ z;
+      stored = ap (λ (rs : List ℕ). set rs i x) R.unchanged;
     }
 
-    held : get_or qs (top_index x) 0 ≡ pivot ps (suc (top_index x))
-    held = ap (λ (rs : List ℕ). get_or rs (top_index x) 0) R.unchanged ∙ sym (pivot_is ps (top_index x))
+    held : get_or qs i 0 ≡ pivot ps (suc i)
+    held = ap (λ (rs : List ℕ). get_or rs i 0) R.unchanged ∙ sym (pivot_is ps i)
 
-    pub falls : (get_or qs (top_index x) 0 ≡ 0 → ⊥) → bit_xor x (get_or qs (top_index x) 0) < x
-    falls f = subst (λ (y : ℕ). bit_xor x y < x) (sym held) (go (E (suc (top_index x))))
+    -- whether there is a pivot is told by its digit at i
+    pub vacant : bit_and (get_or qs i 0 / 2 ^ i) 1 ≡ 0 → get_or qs i 0 ≡ 0
+    vacant z = go (E (suc i))
       where
-        go : (pivot ps (suc (top_index x)) ≡ 0) ⊎ Leading (pivot ps (suc (top_index x))) (suc (top_index x)) → bit_xor x (pivot ps (suc (top_index x))) < x
-        go (inl z) = absurd (f (held ∙ z))
-        go (inr P) = xor_less x (pivot ps (suc (top_index x))) (suc (top_index x)) (leads x some R.fits) P
+        go : (pivot ps (suc i) ≡ 0) ⊎ Leading (pivot ps (suc i)) (suc i) → get_or qs i 0 ≡ 0
+        go (inl z) = held ∙ z
+        go (inr P) = let on : has (get_or qs i 0) (suc i) ≡ true = ap (λ (x : ℕ). has x (suc i)) held ∙ P.on in
+            let t = shift_tests (get_or qs i 0) (suc i) (omega arith) in absurd (grind (arith, nat_tests))
 
-    pub goes_on : (get_or qs (top_index x) 0 ≡ 0 → ⊥) → Reducing ps qs w (bit_xor x (get_or qs (top_index x) 0))
-    goes_on f = record {
+    pub occupied : (bit_and (get_or qs i 0 / 2 ^ i) 1 ≡ 0 → ⊥) → get_or qs i 0 ≡ 0 → ⊥
+    occupied f z = f (ap (λ (x : ℕ). bit_and (x / 2 ^ i) 1) z ∙ ap (λ (x : ℕ). bit_and x 1) (zero-div (2 ^ i)))
+
+    pub falls : (get_or qs i 0 ≡ 0 → ⊥) → bit_xor x (get_or qs i 0) < x
+    falls f = subst (λ (y : ℕ). bit_xor x y < x) (sym held) (go (E (suc i)))
+      where
+        go : (pivot ps (suc i) ≡ 0) ⊎ Leading (pivot ps (suc i)) (suc i) → bit_xor x (pivot ps (suc i)) < x
+        go (inl z) = absurd (f (held ∙ z))
+        go (inr P) = xor_less x (pivot ps (suc i)) (suc i) L P
+
+    pub goes_on : w < 2 ^ places → (get_or qs i 0 ≡ 0 → ⊥) → Reducing ps qs w (bit_xor x (get_or qs i 0))
+    goes_on h f = record {
       unchanged = R.unchanged;
-      fits = omega (arith, falls f, R.fits);
+      falling = omega (arith, falls f, R.falling);
       same = ap (λ (y : ℕ). reduced (pivot ps) places (bit_xor x y)) held
-          ∙ reduced_step (pivot ps) E places (suc (top_index x)) x (omega arith) (omega arith) ∙ R.same;
+          ∙ reduced_step (pivot ps) E places (suc i) x (omega arith) (inside places h) ∙ R.same;
     }
 
 -- ---- through the labels
 
 -- the labels of s that are not in rest have been taken up, and have the table ps
 pub record Scanned (n : ℕ) (v : ℕ → ℕ) (s rest : ℕ) (ps : List ℕ) : Type 0 where
-  pub whole : length ps ≡ places
+  pub room : length ps ≤ places
   pub fits : rest < 2 ^ 64
   pub within : Subset rest s
   pub table : Table n v (difference s rest) (pivot ps)
@@ -136,12 +144,12 @@ low n s w same z =
     let h = lt-div-mul-add {a = s} {b = 2 ^ w} (pow_pos w) in let k = ap (λ (x : ℕ). x * 2 ^ w + 2 ^ w) z in
     let l : s < 2 ^ w = omega arith in subst (λ (k : ℕ). s < 2 ^ k) same l
 
-pub scan_starts : (n : ℕ) (v : ℕ → ℕ) (s : ℕ) → s < 2 ^ 64 → Scanned n v s s (replicate 64 0)
-scan_starts n v s h = record {
-  whole = refl;
+pub scan_starts : (n : ℕ) (v : ℕ → ℕ) (s m : ℕ) → s < 2 ^ 64 → m ≤ places → Scanned n v s s (replicate m 0)
+scan_starts n v s m h few = record {
+  room = omega (arith, length-replicate {A = ℕ} m 0);
   fits = h;
   within = λ e m. m;
-  table = subst (λ (t : ℕ). Table n v t (pivot (replicate 64 0))) (sym (none_taken s)) (blank_table n v 64);
+  table = subst (λ (t : ℕ). Table n v t (pivot (replicate m 0))) (sym (none_taken s)) (blank_table n v m);
 }
 
 -- the labels of s that are not in the list `left` have been taken up, and have the table ps
@@ -173,10 +181,10 @@ module _ (n : ℕ) (v : ℕ → ℕ) (s : ℕ) (ps : List ℕ) (inside : s < 2 ^
     bit_xor rest (single e),
     taken.1,
     record {
-      whole = grown_length ps w qs G ∙ S.2.whole;
+      room = omega (arith, grown_length ps w qs G, S.2.room);
       fits = taken.2;
       within = rest_within s rest e S.2.within taken.0;
       table = subst (λ (t : ℕ). Table n v t (pivot qs)) (sym (taken_more s rest e S.2.within taken.0))
-          (grown_table n v (difference s rest) ps S.2.table S.2.whole e (has_pos rest e taken.0) in_range (not_taken s rest e taken.0) qs (subst (λ (x : ℕ). Grown ps x qs) same G));
+          (grown_table n v (difference s rest) ps S.2.table S.2.room e (has_pos rest e taken.0) in_range (not_taken s rest e taken.0) qs (subst (λ (x : ℕ). Grown ps x qs) same G));
     },
   )

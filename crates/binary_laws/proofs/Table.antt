@@ -124,9 +124,9 @@ blank_table n v m = record {
 pub grown_length : (ps : List ℕ) (w : ℕ) (qs : List ℕ) → Grown ps w qs → length qs ≡ length ps
 grown_length ps w qs G = ap length G.stored ∙ length-set ps G.index G.left
 
-pub grown_table : (n : ℕ) (v : ℕ → ℕ) (t : ℕ) (ps : List ℕ) → Table n v t (pivot ps) → length ps ≡ places → (e : ℕ) → 1 ≤ e → e ≤ n → has t e ≡ false
+pub grown_table : (n : ℕ) (v : ℕ → ℕ) (t : ℕ) (ps : List ℕ) → Table n v t (pivot ps) → length ps ≤ places → (e : ℕ) → 1 ≤ e → e ≤ n → has t e ≡ false
     → (qs : List ℕ) → Grown ps (v e) qs → Table n v (insert t e) (pivot qs)
-grown_table n v t ps P whole e l g o qs G =
+grown_table n v t ps P few e l g o qs G =
     subst (λ (rs : List ℕ). Table n v (insert t e) (pivot rs)) (sym G.stored)
-    (joins n v t (pivot ps) P e l g o G.left (suc G.index) G.same G.leads G.low (pivot_is ps G.index ∙ G.vacant)
-    (pivot (set ps G.index G.left)) (pivot_new ps G.index G.left (omega (arith, G.low, whole))) (pivot_old ps G.index G.left))
+    (joins n v t (pivot ps) P e l g o G.left (suc G.index) G.same G.leads (omega (arith, G.low, few)) (pivot_is ps G.index ∙ G.vacant)
+    (pivot (set ps G.index G.left)) (pivot_new ps G.index G.left G.low) (pivot_old ps G.index G.left))

@@ -1,8 +1,8 @@
 -- Elimination: a table has at most one pivot for each place, and words are reduced by it from the highest place down.
-use Rattle.std.specs.Prelude.{◌≡◌, ℕ, zero, suc, ◌<◌, true, false, cond, ◌⊎◌, List, bit_xor, slice_index, slice_index_or, slice_set}
+use Rattle.std.specs.Prelude.{◌≡◌, ℕ, zero, suc, ◌<◌, true, false, cond, ◌⊎◌, List, length, bit_xor, slice_index, slice_index_or, slice_set}
 use Rattle.labels.specs.Sets.{has}
 
--- the places of a word
+-- the places of a word, and so the most that a table can have
 abbrev pub places : ℕ
 places = 64
 
@@ -37,7 +37,7 @@ Vanishes ps w = reduced (pivot ps) places w ≡ 0
 pub record Grown (ps : List ℕ) (w : ℕ) (qs : List ℕ) : Type 0 where
   pub left : ℕ
   pub index : ℕ
-  pub low : index < places
+  pub low : index < length ps
   pub same : reduced (pivot ps) places left ≡ reduced (pivot ps) places w
   pub leads : Leading left (suc index)
   pub vacant : slice_index_or ps index 0 ≡ 0

@@ -1,6 +1,7 @@
 ghost use Rattle.binary_laws.specs.Binary.{NoEvenPart, binary, times};
 ghost use Rattle.binary_matroid.specs.Columns.{column_at, columns};
 ghost use Rattle.std.specs.Prelude.{◌≡◌, true, ◌↔◌, length};
+ghost use Rattle.std.proofs.Math.Nat.{le_refl};
 ghost use Rattle.entries.proofs.Places.{values_few};
 ghost use Rattle.binary_laws.proofs.Laws.{binary_is};
 
@@ -8,13 +9,20 @@ use crate::matrix::Binary;
 use binary::BinaryMatrix;
 use matroid::Matroid;
 
+/// A column has a place for each digit of a word.
+const PLACES: usize = u64::BITS as usize;
+
 /// The columns as they were added; a label without one has the column 0.
-impl BinaryMatrix for Binary {
+impl BinaryMatrix<PLACES> for Binary {
     ghost width = { λ m. length (columns m) };
 
     ghost column = { λ m. column_at (columns m) };
 
     ghost narrow = { λ m. values_few m.table };
+
+    ghost room = { le_refl _ };
+
+    ghost low = { λ m e low. low };
 
     fn width(&self) -> u8 {
         self.table.len()

@@ -1,5 +1,5 @@
 -- The graph that the code holds, by its labels.
-use Rattle.std.specs.Prelude.{◌≡◌, ℕ, zero, suc, ◌+◌, ◌<◌, ◌≤◌, Bool, true, false, cond, ◌⊎◌, List, [], ◌∷◌, ◌++◌, map, length, get_or, take, Some, None, Option, MatchOption, Ok, bit_xor, ◌-◌, slice_get, slice_index_or, slice_set, refl}
+use Rattle.std.specs.Prelude.{◌≡◌, ℕ, zero, suc, ◌+◌, ◌^◌, ◌<◌, ◌≤◌, Bool, true, false, cond, ◌⊎◌, List, [], ◌∷◌, ◌++◌, map, length, get_or, take, Some, None, Option, MatchOption, Ok, bit_xor, ◌-◌, slice_get, slice_index_or, slice_set, refl}
 use Rattle.std.proofs.Common.{sym, ap, ◌∙◌, subst, inl, inr, add-one, arith, take-suc-set}
 use Rattle.std.specs.Option.{option_map}
 use Rattle.std.proofs.lemmas.Option.{slice_get_cases}
@@ -8,12 +8,14 @@ use Rattle.entries.proofs.Places.{values_few}
 use Rattle.std.proofs.Math.ListN.{get_or-eq_default}
 use Rattle.std.proofs.lemmas.List.{get_or-map, map-append, length-map}
 use Rattle.std.proofs.lemmas.Bool.Decides.{nat_tests}
+use Rattle.std.proofs.lemmas.Nat.{pow_below, xor_lt}
 use Rattle.std.specs.Int.Bits.{xor_self}
 use Rattle.labels.specs.Sets.{single, limit}
 use Rattle.binary_laws.specs.Graphic.{incidence, Joined}
+use Rattle.binary_laws.specs.Elimination.{places}
 use Rattle.graphic.specs.declared.edge.Edge.{Edge}
 use Rattle.graphic.specs.declared.graph.Graphic.{Graphic}
-use Rattle.graphic.specs.Points.{in_range}
+use Rattle.graphic.specs.Points.{in_range, most_points}
 use Rattle.graphic.specs.Graphs.{ends, first_end, second_end, ends_at, admitted}
 use Rattle.graphic.specs.Edges.{ends_of, graph}
 
@@ -37,6 +39,14 @@ loop = record {
   bhigh = omega arith;
   joins = sym (xor_self (single 1));
 }
+
+-- of points alone
+pub points_few : most_points ≤ places
+points_few = omega arith
+
+single_low : (a : ℕ) → a ≤ most_points → single a < 2 ^ most_points
+unfolding single
+single_low a h = pow_below (a - 1) most_points (omega (arith, h))
 
 module _ (g : Graphic) where
   pub graph_length : length (graph g) ≡ length (values g.edges)
@@ -67,6 +77,22 @@ module _ (g : Graphic) where
   joined (suc k) l h =
       let d = get_or (values g.edges) k loop in
       subst (λ (p : ℕ × ℕ). (1 ≤ p.0) × (1 ≤ p.1)) (sym (read_place k loop (omega (arith, graph_length)))) (d.alow, d.blow)
+
+  -- no end is above the points that there can be, so that no column has a digit above them
+  ends_low : (label : ℕ) → (first_end (graph g) label ≤ most_points) × (second_end (graph g) label ≤ most_points)
+  ends_low zero = (omega arith, omega arith)
+  ends_low (suc k) = go (slice_get_cases (values g.edges) k).1
+    where
+      low : ℕ × ℕ → Type 0
+      low p = (p.0 ≤ most_points) × (p.1 ≤ most_points)
+
+      go : ((x : Edge) × (k < length (values g.edges)) × (slice_get (values g.edges) k ≡ Some x) × (get_or (values g.edges) k x ≡ x))
+          ⊎ ((length (values g.edges) ≤ k) × (slice_get (values g.edges) k ≡ None)) → low (ends (graph g) (suc k))
+      go (inl (x, l, q, r)) = subst low (sym (read_place k x l ∙ ap ends_of r)) (x.ahigh, x.bhigh)
+      go (inr (l, q)) = subst low (sym (none_place k l)) (omega arith, omega arith)
+
+  pub columns_low : (label : ℕ) → incidence (first_end (graph g)) (second_end (graph g)) label < 2 ^ most_points
+  columns_low label = let p = ends_low label in xor_lt most_points _ _ (single_low _ p.0) (single_low _ p.1)
 
   -- ---- what the code reads
 

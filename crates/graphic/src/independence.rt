@@ -3,20 +3,28 @@ ghost use Rattle.binary_laws.specs.Graphic.{incidence};
 ghost use Rattle.graphic.specs.Edges.{graph};
 ghost use Rattle.graphic.specs.Graphs.{degree, first_end, forest, second_end};
 ghost use Rattle.std.specs.Prelude.{◌≡◌, true, ◌↔◌, length};
-ghost use Rattle.graphic.specs.GraphsLemmas.{graph_few};
+ghost use Rattle.graphic.specs.GraphsLemmas.{columns_low, graph_few, points_few};
 ghost use Rattle.binary_laws.proofs.Laws.{binary_is};
 
 use crate::graph::Graphic;
 use binary::BinaryMatrix;
+use entry::MOST_POINTS;
 use matroid::Matroid;
 
+/// A column has a place for each point.
+const PLACES: usize = MOST_POINTS as usize;
+
 /// The incidence matrix: the column of an edge has the places of its two points.
-impl BinaryMatrix for Graphic {
+impl BinaryMatrix<PLACES> for Graphic {
     ghost width = { λ g. length (graph g) };
 
     ghost column = { λ g. incidence (first_end (graph g)) (second_end (graph g)) };
 
     ghost narrow = { graph_few };
+
+    ghost room = { points_few };
+
+    ghost low = { λ g e _. columns_low g e };
 
     fn width(&self) -> u8 {
         self.edges.len()

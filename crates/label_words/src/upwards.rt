@@ -38,7 +38,8 @@ impl Iterator for Labels {
             return None;
         }
         let label = self.rest.trailing_zeros() as u8 + 1;
-        self.rest ^= 1u64 << (label - 1);
+        // Takes away the lowest bit, and need not wait for its place.
+        self.rest &= self.rest - 1;
         Some(label)
     }
 }

@@ -6,7 +6,7 @@ pub returns-then-set-width-ne0 : goal.returns-then-set-width-ne0
 returns-then-set-width-ne0 g c = sym (too_high _ _ c.args.set c.width.result c.width.ensures c.if-set-width-ne0.true)
 
 pub loop-label-init : goal.loop-label-init
-loop-label-init g c = (c.args.set, c.into_iter-label-iterator.ensures.into_iter_gives ∙ c.labels_of-label-items.ensures, scan_starts _ _ c.args.set (omega arith))
+loop-label-init g c = (c.args.set, c.into_iter-label-iterator.ensures.into_iter_gives ∙ c.labels_of-label-items.ensures, scan_starts _ _ c.args.set _ (omega arith) g.met.M.BinaryMatrix.room)
 
 pub returns-then-not-join : goal.returns-then-not-join
 returns-then-not-join g c =

@@ -1,7 +1,7 @@
 use Rattle.std.proofs.Common.{rules, ◌≡◌, MatchOption}
 use Rattle.entries.specs.Table.{entry_at, values}
 use Rattle.graphic.specs.GraphsLemmas.{column_is}
-use Rattle.graphic.proofs.independence.GraphicBinaryMatrix.column.Goals as goal
+use Rattle.graphic.proofs.independence.GraphicBinaryMatrixPLACES.column.Goals as goal
 
 pub returns : goal.returns
 returns c =
