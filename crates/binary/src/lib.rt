@@ -40,6 +40,8 @@ fn join<const PLACES: usize>(pivots: &mut [u64; PLACES], word: u64) -> bool
 }
 
 /// Whether no part of `set` but the empty one has columns whose sum is 0; false where `set` has a label with no column.
+// By itself: within the walk its loop would keep what it needs on the stack, not in registers.
+#[inline(never)]
 pub fn is_independent<const PLACES: usize, M: BinaryMatrix<PLACES>>(matrix: &M, set: u64) -> bool
     ensures { result ≡ binary (M.BinaryMatrix.width matrix.now) (M.BinaryMatrix.column matrix.now) set }
 {
