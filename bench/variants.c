@@ -63,6 +63,26 @@ static int named(uint64_t set)
     return 1;
 }
 
+/* No table: each word is reduced by each pivot in turn, without a branch. */
+static int in_turn(uint64_t set)
+{
+    uint64_t pivots[64];
+    int k = 0;
+    if (set >> n)
+        return 0;
+    for (; set; set &= set - 1) {
+        uint64_t left = columns[__builtin_ctzll(set)];
+        for (int i = 0; i < k; i++) {
+            uint64_t less = left ^ pivots[i];
+            left = less < left ? less : left;
+        }
+        if (!left)
+            return 0;
+        pivots[k++] = left;
+    }
+    return 1;
+}
+
 static uint64_t bit(int label)
 {
     return 1ull << (label - 1);
@@ -134,7 +154,7 @@ static void report(const char *name)
 {
     double few, many;
     double plain = cost(cleared, 0, &many), once = cost(cleared, 1, &few);
-    printf("%-30s %10.1f %10.1f %10.1f %10.1f %12.2f %12.2f\n", name, plain, cost(marked, 0, &many), cost(named, 0, &many), once, many, few);
+    printf("%-28s %9.1f %9.1f %9.1f %10.1f %9.1f %10.2f %11.2f\n", name, plain, cost(marked, 0, &many), cost(named, 0, &many), cost(in_turn, 0, &many), once, many, few);
 }
 
 static void join(int a, int b)
@@ -170,7 +190,7 @@ static void sparse(int points, int seams)
 
 int main(void)
 {
-    printf("%-30s %10s %10s %10s %10s %12s %12s\n", "rig", "plain ns", "marked ns", "named ns", "first ns", "questions", "with first");
+    printf("%-28s %9s %9s %9s %10s %9s %10s %11s\n", "rig", "plain ns", "marked ns", "named ns", "in turn ns", "first ns", "questions", "with first");
     for (int b = 2; b <= 8; b++)
         for (int a = 1; a < b; a++)
             join(a, b);

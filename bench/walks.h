@@ -14,7 +14,7 @@ typedef bool walk_on_buttons(const uint64_t *words, size_t length, uint64_t most
 walk_on_seams timed_seams, timed_dual, timed_pile, reference_seams, reference_dual, reference_pile;
 walk_on_buttons timed_buttons, reference_buttons;
 
-/* How many questions the reference has put to its matroid since it was last asked; the proved walk puts the same. */
+/* How many questions the reference has put to its matroid since it was last asked; the proved walk puts the same, unless the reference forgets. */
 uint64_t reference_asked(void);
 
 /* Whether the reference is to ask everything anew, and to remember nothing of what it asked. */

@@ -22,11 +22,11 @@ noted o a b r = record {
 
 -- l of the set t goes out and m comes in: what is known of the set that this leads to
 module _ (o : Answers) (t l m : ℕ) where
-  -- the swap of a and b leads after it where it led before
+  -- it is known that the swap of a and b leads after it where it led before
   abbrev pub stays : ℕ → ℕ → Bool
   stays a b = o.no a m || o.no l b
 
-  -- it leads to an independent set after it, and led to a dependent one before
+  -- it is known that it leads to an independent set after it, and led to a dependent one before
   abbrev pub turns : ℕ → ℕ → Bool
   turns a b = o.yes a m && (o.yes l b && o.no a b)
 

@@ -3,7 +3,7 @@ ghost use Rattle.labels.specs.Sets.{has};
 
 use label_words::{contains, inserted};
 
-/// What is known of the swaps of one label: the labels with which one leads to an independent set, and those with which it does not.
+/// What is known of the swaps of one label, in the set or outside it: the labels with which one leads to an independent set, and those with which it does not.
 #[derive(Clone, Copy, Debug)]
 pub struct Row {
     pub yes: u64,

@@ -11,7 +11,7 @@ use binary::BinaryMatrix;
 use entry::MOST_POINTS;
 use matroid::Matroid;
 
-/// A column has a place for each point.
+/// A column has a place for each point that there can be.
 const PLACES: usize = MOST_POINTS as usize;
 
 /// The incidence matrix: the column of an edge has the places of its two points.

@@ -25,7 +25,7 @@ fn texts() -> &'static [[u8; LABEL_ROOM]; 64]
 }
 
 /// Puts a label after a space at `at`, and answers where it ends. Bytes beyond, as far as its room goes, may be written over.
-// As many bytes for any label: whether it has one digit or two is a guess that the machine loses once in most lines.
+// As many bytes for any label: a branch on one digit or two would be foreseen wrongly about once a line.
 pub(crate) fn put_label(out: &mut [u8], at: usize, label: u8) -> usize
     requires { (1 ≤ label) × (label ≤ 64) × (at + LABEL_ROOM ≤ length out.old) }
     ensures text { take result out.new ≡ take at out.old ++ label_text label }

@@ -53,7 +53,7 @@ fn candidates<P: Matroid>(matroid: &P, answers: &mut Answers, present: u64, labe
     found
 }
 
-/// The labels up to the first that is not on the side of label 1: none of them has a label below it on the other side.
+/// The labels before the first that is on the other side than label 1: none of them has a label below it on the other side.
 fn alike(present: u64) -> u64
     ensures { (d o : ℕ) → has result d ≡ true → 1 ≤ o → o < d → has present o ≡ has present d }
 {
