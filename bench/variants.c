@@ -21,7 +21,8 @@ static int cleared(uint64_t set)
     return by_elimination(columns, n, set);
 }
 
-/* A table that is not cleared, with a word that says which pivots are there. */
+/* A table that is not cleared, with a word that says which pivots are there. Not one function with elimination.h, by a flag for the
+   test of a pivot: gcc made the reference a tenth slower by it (148 and 162 ns a base of the complete rig of 8). */
 static int marked(uint64_t set)
 {
     uint64_t pivots[64], there = 0;
