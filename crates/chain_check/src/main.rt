@@ -3,7 +3,7 @@
 
 use anyhow::anyhow;
 use chain_reader::{Entry, ListReader, read};
-use intake::take_in;
+use intake::take_from;
 use std::io;
 use std::io::{BufWriter, Write};
 
@@ -49,7 +49,7 @@ fn write_verdict<W: Write>(out: &mut W, file: &[u8]) -> anyhow::Result<()> {
 fn run(rt: &HostRuntime) -> anyhow::Result<()> {
     // A fixed buffer, so that no input takes more memory than this.
     let mut buffer = [0u8; ROOM];
-    let n = take_in(rt, &mut buffer)?;
+    let n = take_from(&mut rt.stdin(), &mut buffer)?;
     if n > MOST_INPUT {
         return Err(anyhow!("the file is too long"));
     }

@@ -11,7 +11,7 @@ mod words;
 use anyhow::anyhow;
 use building::Refusal;
 use description::{Course, MOST_BYTES, Plan, Rig, read_rig};
-use intake::take_in;
+use intake::take_from;
 use matroid::Matroid;
 use piling::write_pile;
 use std::io::{BufWriter, Write};
@@ -49,7 +49,7 @@ fn write_rig<W: Write>(out: &mut W, rig: Rig) -> anyhow::Result<()> {
 fn run(rt: &HostRuntime) -> anyhow::Result<()> {
     // A fixed buffer: no lawful description is longer, and a longer text is refused before anything is made of it.
     let mut buffer = [0u8; ROOM];
-    let n = take_in(rt, &mut buffer)?;
+    let n = take_from(&mut rt.stdin(), &mut buffer)?;
     let read = read_rig(&buffer[..n], rt.alloc());
     if let Err(Unread::WrongForm) = &read {
         println!(rt; "wrong form")?;

@@ -5,7 +5,7 @@ ghost use Rattle.lines.specs.Pages.{page_text};
 ghost use Rattle.std.specs.Prelude.{◌≡◌, [], OnOk};
 
 use anyhow::anyhow;
-use intake::take_in;
+use intake::take_from;
 use lines::{Line, Page, RefusedLine, TotalLine};
 use roll::Roll;
 use std::io;
@@ -85,7 +85,7 @@ fn write_all(rt: &HostRuntime, walk: &mut SurveyWalk) -> io::Result<()> {
 fn run(rt: &HostRuntime) -> anyhow::Result<()> {
     // A fixed buffer: no lawful survey is longer, and no input may take more memory than this.
     let mut buffer = [0u8; MOST_INPUT];
-    let n = take_in(rt, &mut buffer)?;
+    let n = take_from(&mut rt.stdin(), &mut buffer)?;
     match walk_of(&buffer[0..n]) {
         Ok(mut walk) => {
             let written = write_all(rt, &mut walk);

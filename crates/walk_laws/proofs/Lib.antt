@@ -1,8 +1,8 @@
 mod Ahead
 mod Views
 mod Values
-mod Lists
-mod Future
+pub mod Lists
+pub mod Future
 pub mod Several
 mod Paths
 pub mod Found
