@@ -82,13 +82,14 @@ fn lamp_total(graphic: Graphic) -> anyhow::Result<u64> {
 
 /// Begins the walk over a rig's survey.
 fn walk_over(rig: Rig) -> anyhow::Result<SurveyWalk> {
-    walk_of(rig.text).map_err(|refusal| {
+    let (_, walk) = walk_of(rig.text).map_err(|refusal| {
         anyhow!(
             "the survey is refused: {} in row {}",
             refusal.fault.number(),
             refusal.row
         )
-    })
+    })?;
+    Ok(walk)
 }
 
 /// Ends a walk, and gives its graph back.

@@ -47,7 +47,7 @@ fn line_of(refusal: Refusal) -> RefusedLine {
 /// Writes what a text opens, or why it is refused.
 fn write_opening<W: Write>(out: &mut W, name: &str, text: &[u8]) -> io::Result<()> {
     match walk_of(text) {
-        Ok(walk) => {
+        Ok((_, walk)) => {
             let matroid = walk.close().matroid;
             writeln!(
                 out,
@@ -66,7 +66,7 @@ fn write_walk<W: Write>(out: &mut W, case: Case) -> anyhow::Result<()> {
     let (name, text) = case;
     write!(out, "survey, {name}: ")?;
     match walk_of(text) {
-        Ok(walk) => Ok(during(walk, |walk| write_sets(out, walk))?),
+        Ok((_, walk)) => Ok(during(walk, |walk| write_sets(out, walk))?),
         Err(refusal) => {
             writeln!(out, "{}", line_of(refusal))?;
             Err(anyhow!("the survey is refused"))

@@ -1,2 +1,2 @@
 mod Rows
-mod Entries
+pub mod Entries

@@ -39,10 +39,9 @@ closest = record {}
 abbrev pub survey_setting : Sheet → Setting Closest Shift
 survey_setting s = setting_for (edges_of s) (shifts_for s)
 
--- w has just begun, from the empty set and with all labels active, over the lawful survey that the text writes
+-- the text writes a lawful survey, and w has just begun over it, from the empty set and with all labels active
 pub record Opened {matroids : MatroidOf Graphic} {rules : TieRuleOf Closest} {measures : MeasureOf Shifts Shift}
-    (text : List ℕ) (w : Walk Graphic Closest Shifts Shift matroids rules measures) : Type 0 where
-  pub sheet : Sheet
+    (text : List ℕ) (sheet : Sheet) (w : Walk Graphic Closest Shifts Shift matroids rules measures) : Type 0 where
   pub lawful : Lawful sheet
   pub writes : Writes text sheet
   pub points : w.matroid.points ≡ sheet.points

@@ -37,7 +37,6 @@ returns c =
     let shifts-are = MatchResult-at_ok _ _ _ c.unwrap-shifts.ensures c.shifts_of.ensures in
     let same : setting_for (graph c.unwrap-graphic.result) (entries_of c.unwrap-shifts.result) ≡ survey_setting s = λ i. setting_for (graph_is.1 i) (shifts-are i) in
     record {
-      sheet = s;
       lawful = accepted.0;
       writes = accepted.1;
       points = ap (λ (g : Graphic). g.points) told.matroid ∙ graph_is.0;

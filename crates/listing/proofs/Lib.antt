@@ -1,0 +1,6 @@
+mod Kept
+mod Held
+mod Going
+mod Written
+mod Ends
+mod Surveys

@@ -1,0 +1,4 @@
+pub mod Texts
+pub mod Hands
+pub mod Batches
+pub mod Program
