@@ -1,5 +1,6 @@
 //! The calls of a reader of lists.
 ghost use Rattle.chain_lists.specs.Faults.{Beginning, Refused, bytes_of, nothing};
+ghost use Rattle.chain_lists.specs.Lists.{framed};
 ghost use Rattle.chain_reader.specs.Reading.{Finished, HasRead, Told, end_of, entry_written, extended, fault_of, file_read, spot_of, unread};
 ghost use Rattle.std.specs.Prelude.{◌≡◌, ◌++◌, ◌<◌, length, IfOk, IfSome, MatchOption, MatchResult};
 
@@ -30,6 +31,7 @@ impl<'a> ListReader<'a> {
             (λ x. HasRead self.new (extended b x.entry)
             × Told b x.entry
             × (x.record.bytes.now ≡ entry_written x.entry)
+            × (x.record.bytes.now ≡ framed x.record.kind x.record.body.now)
             × (bytes_of (extended b x.entry) ≡ bytes_of b ++ x.record.bytes.now)
             × (x.record.spot ≡ end_of b)))
             (λ e. Refused (file_read self.old) (fault_of e) (spot_of e) × HasRead self.new b) }

@@ -4,6 +4,7 @@
 mod filling;
 mod label_text;
 mod line;
+mod line_text;
 mod page;
 mod refused_line;
 mod set_text;
@@ -13,6 +14,7 @@ mod total_line;
 
 pub use filling::PageFull;
 pub use line::Line;
+pub use line_text::LineText;
 pub use page::Page;
 pub use refused_line::RefusedLine;
 pub use set_text::SetText;

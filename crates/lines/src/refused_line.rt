@@ -1,6 +1,7 @@
 ghost use Rattle.lines.specs.Text.{refused_text};
-ghost use Rattle.std.specs.Prelude.{Some};
+ghost use Rattle.std.specs.Prelude.{◌≡◌, ◌++◌, Some, codes};
 
+use crate::line_text::{LineText, push_number};
 use std::fmt;
 
 /// A refusal by its number, and the row that it is about.
@@ -13,7 +14,22 @@ pub struct RefusedLine {
     pub row: u32,
 }
 
-/// `refused`, the number, `row` and the row, with a space between each two.
+impl RefusedLine {
+    /// The line: `refused`, the number, `row` and the row, with a space between each two.
+    pub fn text(self) -> LineText
+        ensures { result.bytes ≡ refused_text self.number self.row ++ codes "\n" }
+    {
+        let mut text = LineText::new();
+        text.push_str("refused ");
+        push_number(&mut text, self.number);
+        text.push_str(" row ");
+        push_number(&mut text, self.row);
+        text.push_str("\n");
+        text
+    }
+}
+
+/// The line, without its line feed.
 impl fmt::Display for RefusedLine {
     ghost output = { λ l. Some (refused_text l.number l.row) };
 

@@ -55,27 +55,28 @@ fn a_full_page(rt: HostRuntime) {
 }
 
 #[test]
-fn totals(rt: HostRuntime) -> Result<(), Fail> {
+fn totals(rt: HostRuntime) {
     let three = TotalLine {
         count: 3,
         across: 16,
         along: 12,
     };
-    assert_eq!(rt; three.to_string(rt.alloc())?.as_str(), "total 3 16 12");
-    let one = TotalLine {
-        count: 1,
-        across: 0,
-        along: -5,
+    assert_eq!(rt; three.text().as_str(), "total 3 16 12\n");
+    let longest = TotalLine {
+        count: u64::MAX,
+        across: i64::MIN,
+        along: -1,
     };
-    assert_eq!(rt; one.to_string(rt.alloc())?.as_str(), "total 1 0 -5");
-    Ok(())
+    assert_eq!(rt;
+        longest.text().as_str(),
+        "total 18446744073709551615 -9223372036854775808 -1\n"
+    );
 }
 
 #[test]
-fn refusals(rt: HostRuntime) -> Result<(), Fail> {
+fn refusals(rt: HostRuntime) {
     let refused = RefusedLine { number: 5, row: 3 };
-    assert_eq!(rt; refused.to_string(rt.alloc())?.as_str(), "refused 5 row 3");
-    Ok(())
+    assert_eq!(rt; refused.text().as_str(), "refused 5 row 3\n");
 }
 
 #[test]

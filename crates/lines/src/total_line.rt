@@ -1,6 +1,7 @@
 ghost use Rattle.lines.specs.Text.{total_text};
-ghost use Rattle.std.specs.Prelude.{Some};
+ghost use Rattle.std.specs.Prelude.{◌≡◌, ◌++◌, Some, codes};
 
+use crate::line_text::{LineText, push_number};
 use std::fmt;
 
 /// What a list comes to: a count, and how far across and along.
@@ -14,7 +15,24 @@ pub struct TotalLine {
     pub along: i64,
 }
 
-/// `total`, the count, across and along, with a space between each two.
+impl TotalLine {
+    /// The line: `total`, the count, across and along, with a space between each two.
+    pub fn text(self) -> LineText
+        ensures { result.bytes ≡ total_text self.count self.across self.along ++ codes "\n" }
+    {
+        let mut text = LineText::new();
+        text.push_str("total ");
+        push_number(&mut text, self.count);
+        text.push_str(" ");
+        push_number(&mut text, self.across);
+        text.push_str(" ");
+        push_number(&mut text, self.along);
+        text.push_str("\n");
+        text
+    }
+}
+
+/// The line, without its line feed.
 impl fmt::Display for TotalLine {
     ghost output = { λ l. Some (total_text l.count l.across l.along) };
 

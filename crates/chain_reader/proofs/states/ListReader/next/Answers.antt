@@ -81,6 +81,7 @@ returns-clause-reads c =
       },
       says.told,
       bytes,
+      k.2,
       says.grown ∙ ap (λ (ys : List ℕ). bytes_of b ++ ys) (sym bytes),
       at,
     )
