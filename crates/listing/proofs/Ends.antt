@@ -20,8 +20,8 @@ last_line n x (y ∷ ys) =
       x ∷ r.0,
       r.1,
       ap (λ (t : List ℕ). (line_text n x ++ codes "\n") ++ t) r.2
-      ∙ sym (append_assoc (line_text n x ++ codes "\n") (lines_text (suc n) r.0) (line_text (suc n + length ys) r.1 ++ codes "\n"))
-      ∙ ap (λ (k : ℕ). ((line_text n x ++ codes "\n") ++ lines_text (suc n) r.0) ++ (line_text k r.1 ++ codes "\n")) (omega arith),
+          ∙ sym (append_assoc (line_text n x ++ codes "\n") (lines_text (suc n) r.0) (line_text (suc n + length ys) r.1 ++ codes "\n"))
+          ∙ ap (λ (k : ℕ). ((line_text n x ++ codes "\n") ++ lines_text (suc n) r.0) ++ (line_text k r.1 ++ codes "\n")) (omega arith),
     )
 
 module _ {R V : Type 0} (w : Setting R V) where

@@ -1,6 +1,5 @@
 -- A walk's list, from its beginning to its end.
 use Rattle.std.proofs.Common.{◌≡◌, ℕ, zero, suc, ◌+◌, List, [], ◌∷◌, ◌++◌, length, refl, ap, sym, ◌∙◌, arith, Option, Some, None, append_assoc, append-nil, codes, subst, add-zero, ◌==◌}
-use Rattle.std.proofs.lemmas.List.{length-map}
 use Rattle.std.proofs.Common.{not}
 use Rattle.lines.specs.Text.{line_text}
 use Rattle.walk_laws.specs.declared.Exchange.{Exchange}
@@ -9,7 +8,7 @@ use Rattle.walk_laws.specs.declared.Stop.TheVariants.{Finished}
 use Rattle.walk_laws.specs.Settings.{Setting}
 use Rattle.walk_laws.specs.Steps.{State, step, step_at, Several, several, go_on, offers}
 use Rattle.labels.specs.Sets.{first_passing}
-use Rattle.walk_laws.specs.Lives.{Life, begins, calls, Call, lists, listed, Runs, ends, goes, sets_of}
+use Rattle.walk_laws.specs.Lives.{Life, begins, calls, Call, lists, listed, Runs, ends, sets_of}
 use Rattle.walk_laws.proofs.Future.{no_both, runs_off, runs_on, runs_one}
 use Rattle.outlet.specs.Sending.{Broken, Holding}
 use Rattle.listing.specs.Texts.{lines_text}

@@ -1,7 +1,7 @@
 -- What the walk of any survey hands out.
-use Rattle.std.proofs.Common.{◌≡◌, ℕ, List, length, refl, sym, ap, ◌∙◌, arith, subst, Option, Result}
+use Rattle.std.proofs.Common.{◌≡◌, ℕ, List, refl, sym, ap, ◌∙◌, arith, subst, Option, Result}
 use lib.ListN.{length-map}
-use Rattle.labels.specs.Sets.{full, Subset}
+use Rattle.labels.specs.Sets.{full}
 use Rattle.labels.proofs.Passing.{highest_below_is, highest_below_none}
 use Rattle.binary_laws.proofs.Laws.{binary_is}
 use Rattle.measure.specs.Group.{shifts_group}
@@ -14,7 +14,7 @@ use Rattle.matroid.specs.declared.interface.Matroid.{Ghosts as MatroidOf}
 use Rattle.graphic.specs.Edges.{graph}
 use Rattle.graphic.specs.declared.graph.Graphic.{Graphic}
 use Rattle.survey_laws.specs.Laws.{AcceptsExactly}
-use Rattle.survey_laws.specs.Sheets.{Lawful, Sheet}
+use Rattle.survey_laws.specs.Sheets.{Sheet}
 use Rattle.survey_laws.specs.Check.{Outcome, accepted, refused, check}
 use Rattle.walk_laws.specs.Settings.{Setting, Sound}
 use Rattle.walk_laws.specs.Steps.{State}
@@ -73,6 +73,6 @@ module _ {matroids : MatroidOf Graphic} {rules : TieRuleOf Closest} {measures : 
       → (t : List ℕ) × TextFor text t × Sends old new r t
   its_list {old = old} {new = new} {r = r} exactly list =
       let l = subst (λ (t : State Closest Shift). WholeList (survey_setting sheet) old new r t) o.begins
-          (subst (λ (v : Setting Closest Shift). WholeList v old new r (state_of walk)) same list) in
+      (subst (λ (v : Setting Closest Shift). WholeList v old new r (state_of walk)) same list) in
       let t = list_text (survey_setting sheet) l.sets in
       (t, subst (λ (k : Outcome). TextOf k t) (sym (accepts exactly)) (l.sets, l.hands, refl), l.sends)

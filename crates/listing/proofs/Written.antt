@@ -1,5 +1,5 @@
 -- The lines of a walk's list, batch by batch.
-use Rattle.std.proofs.Common.{◌≡◌, ℕ, ◌+◌, List, [], ◌∷◌, ◌++◌, length, refl, ap, sym, ◌∙◌, arith, Option, Result, Ok, Err, subst}
+use Rattle.std.proofs.Common.{◌≡◌, ℕ, ◌+◌, List, [], ◌∷◌, ◌++◌, length, refl, ap, arith, Option, Result, subst}
 use Rattle.std.proofs.lemmas.List.{length-map}
 use Rattle.walk_laws.specs.declared.Stop.{Stop}
 use Rattle.walk_laws.specs.declared.Stop.TheVariants.{Finished}
@@ -10,7 +10,7 @@ use Rattle.outlet.specs.Sending.{Broken, Holding}
 use Rattle.outlet.proofs.Pieces.{holding_as, holding_on}
 use Rattle.listing.specs.Texts.{lines_text}
 use Rattle.listing.specs.Hands.{Begun, Ended, Hands}
-use Rattle.listing.specs.Batches.{Batch, Chains}
+use Rattle.listing.specs.Batches.{Batch}
 use Rattle.listing.proofs.Going.{Going, broke, counts_one, going_first, going_off, going_on, handed_after, passed}
 
 module _ {R V : Type 0} (w : Setting R V) where

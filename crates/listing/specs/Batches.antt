@@ -22,8 +22,8 @@ module _ {R V : Type 0} (w : Setting R V) where
     pub counted : t.count ≡ s.count + length found
     pub full : stop ≡ Full → 0 < length found
     pub cases : MatchResult r
-      (λ e. (e ≡ stop) × Holding old new after (before ++ lines_text (s.count + 1) (sets_of found)))
-      (λ _. Broken old new (before ++ lines_text (s.count + 1) (sets_of found)))
+        (λ e. (e ≡ stop) × Holding old new after (before ++ lines_text (s.count + 1) (sets_of found)))
+        (λ _. Broken old new (before ++ lines_text (s.count + 1) (sets_of found)))
 
   -- a line for each set that a walk from s hands out was appended, and the walk is finished in the state t; or it broke off in them
   pub record Chains {E : Type 0} (old new : Option (List ℕ)) (r : Result (Unit {0}) E) (s t : State R V) : Type 0 where

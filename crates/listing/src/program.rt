@@ -1,5 +1,3 @@
-ghost use Rattle.std.specs.Prelude.{◌≡◌, ◌++◌, codes, IfOk};
-ghost use Rattle.lines.specs.Text.{refused_text};
 ghost use Rattle.outlet.specs.Sending.{Sends};
 ghost use Rattle.survey.specs.View.{wrong_of};
 ghost use Rattle.survey_laws.specs.Laws.{AcceptsExactly, FrontDecides, RefusesFirst};
@@ -8,11 +6,9 @@ ghost use Rattle.listing.specs.Program.{Answers, Does, LinesAreBases, OneText};
 
 use crate::totals::write_list;
 use crate::watch::Watch;
-use arrayvec::ArrayString;
 use intake::take_from;
 use lines::RefusedLine;
 use outlet::send;
-use std::fmt::Write as _;
 use std::io;
 use std::io::{Read, Write};
 use survey::Refusal;
@@ -21,9 +17,6 @@ use survey_walk::walk_of;
 
 /// How many bytes of an input are read; no lawful survey is longer.
 pub const MOST_INPUT: usize = 4096;
-
-/// Room for the line of a refusal.
-const REFUSAL_ROOM: usize = 40;
 
 /// What was written.
 #[derive(Clone, Copy, Debug, PartialEq, Eq)]
@@ -43,15 +36,6 @@ pub enum Failure {
     Writing(io::Error),
 }
 
-/// The line of a refusal.
-fn refusal_line(line: RefusedLine) -> io::Result<ArrayString<REFUSAL_ROOM>>
-    ensures { IfOk result (λ t. t.bytes ≡ refused_text line.number line.row ++ codes "\n") }
-{
-    let mut text = ArrayString::<REFUSAL_ROOM>::new();
-    writeln!(text, "{line}")?;
-    Ok(text)
-}
-
 /// Writes the line of a refusal.
 fn write_refusal<W: Write>(out: &mut W, refusal: Refusal) -> io::Result<()>
     ensures { Sends (W.contents out.old) (W.contents out.new) result (refused_line (wrong_of refusal.fault) refusal.row) }
@@ -60,8 +44,7 @@ fn write_refusal<W: Write>(out: &mut W, refusal: Refusal) -> io::Result<()>
         number: refusal.fault.number(),
         row: refusal.row,
     };
-    let text = refusal_line(line)?;
-    send(out, text.as_bytes())
+    send(out, line.text().as_bytes())
 }
 
 /// Writes the answer to a text.

@@ -105,7 +105,11 @@ impl Watch for Told {
 }
 
 /// The answer to a text, with all that is written of it.
-fn answer<'a>(text: &[u8], buffer: &'a mut [u8; MOST_INPUT], out: &mut Short) -> Result<Answer, Failure> {
+fn answer<'a>(
+    text: &[u8],
+    buffer: &'a mut [u8; MOST_INPUT],
+    out: &mut Short,
+) -> Result<Answer, Failure> {
     let mut input = Slow {
         rest: text,
         ready: false,

@@ -1,33 +1,17 @@
-ghost use Rattle.std.specs.Prelude.{◌≡◌, ◌++◌, codes, IfOk};
-ghost use Rattle.lines.specs.Text.{total_text};
 ghost use Rattle.walk.specs.States.{setting_of, state_of};
 ghost use Rattle.listing.specs.Hands.{Begun};
 ghost use Rattle.listing.specs.Batches.{WholeList};
 
 use crate::chains::write_chains;
 use crate::watch::Watch;
-use arrayvec::ArrayString;
 use lines::TotalLine;
 use matroid::Matroid;
 use measure::{Measure, Shifts};
 use outlet::send;
-use std::fmt::Write as _;
 use std::io;
 use std::io::Write;
 use tie_rule::TieRule;
 use walk::Walk;
-
-/// Room for the last line of a list.
-const TOTAL_ROOM: usize = 80;
-
-/// The last line of a list.
-fn total_line(line: TotalLine) -> io::Result<ArrayString<TOTAL_ROOM>>
-    ensures { IfOk result (λ t. t.bytes ≡ total_text line.count line.across line.along ++ codes "\n") }
-{
-    let mut text = ArrayString::<TOTAL_ROOM>::new();
-    writeln!(text, "{line}")?;
-    Ok(text)
-}
 
 /// Writes all chains of the walk, and the total once it is finished.
 pub(crate) fn write_list<W: Write, T: Watch, P: Matroid, R: TieRule>(
@@ -40,10 +24,10 @@ pub(crate) fn write_list<W: Write, T: Watch, P: Matroid, R: TieRule>(
 {
     write_chains(out, watch, walk)?;
     let end = walk.look();
-    let line = total_line(TotalLine {
+    let line = TotalLine {
         count: end.count,
         across: end.total.across,
         along: end.total.along,
-    })?;
-    send(out, line.as_bytes())
+    };
+    send(out, line.text().as_bytes())
 }

@@ -12,7 +12,7 @@ pub returns-in_err-put_chains-clause-chains : goal.returns-in_err-put_chains-cla
 returns-in_err-put_chains-clause-chains g c =
     let p = err_from_is_err_and c.from_residual.result c.from_residual.ensures.1 in
     let off = not_started (setting_of g.P.Matroid g.R.TieRule g.M.Measure c.args.walk.now) (page_text c.new-page.result) (c.look.result.present ∷ []) c.requires c.new-page.ensures
-        (ap (λ (v : View g.row.M-Value.Denot). v.present ∷ []) c.look.ensures) c.in_err-put_chains.ensures in
+    (ap (λ (v : View g.row.M-Value.Denot). v.present ∷ []) c.look.ensures) c.in_err-put_chains.ensures in
     record { sets = off.all; hands = off.hands; cases = rw p.1 off.broken }
 
 pub loop-init : goal.loop-init

@@ -1,6 +1,4 @@
 use Rattle.std.proofs.Common.{rules, ◌≡◌, ℕ, List, ◌++◌, ap, ◌∙◌}
-use Rattle.measure.specs.declared.value.Shift.{Shift}
-use Rattle.walk_laws.specs.declared.View.{View}
 use Rattle.listing.specs.Texts.{lines_text}
 use Rattle.listing.specs.Texts.{total_line}
 use Rattle.std.proofs.lemmas.Result.{err_from_is_err_and}
@@ -20,9 +18,7 @@ returns-in_err-write_chains g c =
 pub returns : goal.returns
 returns g c =
     let ch = c.in_ok-write_chains.ensures.chains in
-    let line_is : c.in_ok-line.line.bytes ≡ total_line c.look-end.result.count c.look-end.result.total = search rules in
-    let held_is : c.as_bytes.result.now ≡ total_line c.write_chains.new.walk.view.count c.write_chains.new.walk.view.total =
-    c.as_bytes.ensures.value ∙ c.deref.ensures.0 ∙ line_is ∙ ap (λ (v : View Shift). total_line v.count v.total) c.look-end.ensures in
+    let held_is : c.as_bytes.result.now ≡ total_line c.write_chains.new.walk.view.count c.write_chains.new.walk.view.total = search rules in
     record {
       sets = ch.sets;
       hands = ch.hands;
