@@ -1,14 +1,16 @@
 -- The end of a list.
-use Rattle.std.proofs.Common.{◌∙◌, ◌≡◌, ℕ, suc, ◌+◌, List, [], ◌∷◌, ◌++◌, length, codes, ap, sym, None, add-zero, append_assoc, append-nil, subst, arith}
+use Rattle.std.proofs.Common.{◌∙◌, ◌≡◌, ℕ, suc, ◌+◌, List, [], ◌∷◌, ◌++◌, length, codes, ap, sym, None, add-zero, append_assoc, append-nil, subst, arith, Option, Result}
 use Rattle.lines.specs.Text.{line_text}
 use Rattle.matroid_laws.specs.Matroids.{bases}
 use Rattle.measure.specs.declared.value.Shift.{Shift}
-use Rattle.walk_laws.specs.Settings.{Setting}
+use Rattle.walk_laws.specs.Settings.{Setting, total_of}
 use Rattle.walk_laws.specs.Steps.{State, step}
 use Rattle.walk_laws.specs.Lives.{Life, begins, calls, advances, Runs, ends, goes}
 use Rattle.walk_laws.specs.Law.{Always}
 use Rattle.walk_laws.proofs.Lists.{reordered_refl}
 use Rattle.labels.specs.Sets.{full, Subset}
+use Rattle.outlet.specs.Sending.{Broken, Holding, Sends}
+use Rattle.outlet.proofs.Pieces.{breaks_longer, sends_all}
 use Rattle.listing.specs.Texts.{lines_text, list_text, total_line}
 use Rattle.listing.specs.Hands.{AreBases, Begun, Hands, Ended}
 
@@ -66,3 +68,19 @@ pub ended_text : {R : Type 0} (w : Setting R Shift) {s t : State R Shift} {sets 
 ended_text w {t = t} {sets = sets} b e =
     let a = always w b e.life in
     λ i. lines_text 1 sets ++ total_line (a.counted i) (a.totalled sets (reordered_refl sets) i)
+
+-- all lines and then the total
+pub list_ended : {E R : Type 0} (w : Setting R Shift) {s t : State R Shift} {sets : List ℕ} (a b c : Option (List ℕ)) (before after : List ℕ) (r : Result (Unit {0}) E)
+    → Begun w s → before ≡ [] → Holding a b after (before ++ lines_text 1 sets) → Ended w s t sets → Sends b c r (after ++ total_line t.count t.total) → Sends a c r (list_text w sets)
+list_ended w {t = t} {sets = sets} a b c before after r begun clear h e k =
+    sends_all {a = a} {b = b} c r (record {
+      sent = h.sent;
+      appended = h.appended;
+      whole = sym (append_assoc h.sent after (total_line t.count t.total))
+          ∙ ap (λ (l : List ℕ). l ++ total_line t.count t.total) (h.whole ∙ ap (λ (l : List ℕ). l ++ lines_text 1 sets) clear)
+          ∙ ended_text w begun e;
+    }) k
+
+pub list_broken : {R : Type 0} (w : Setting R Shift) (sets : List ℕ) (a c : Option (List ℕ)) (before : List ℕ) → before ≡ [] → Broken a c (before ++ lines_text 1 sets) → Broken a c (list_text w sets)
+list_broken w sets a c before clear k =
+    breaks_longer (total_line (length sets) (total_of w sets)) (subst (λ (l : List ℕ). Broken a c (l ++ lines_text 1 sets)) clear k)

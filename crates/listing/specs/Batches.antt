@@ -1,7 +1,6 @@
 -- What the parts of the program do.
 use Rattle.std.specs.Prelude.{◌≡◌, ℕ, ◌+◌, ◌<◌, List, ◌++◌, length, Option, Result, MatchResult}
 use Rattle.measure.specs.declared.value.Shift.{Shift}
-use Rattle.std.specs.Io.KnownBytes.{Appends}
 use Rattle.walk_laws.specs.declared.Exchange.{Exchange}
 use Rattle.walk_laws.specs.declared.Stop.{Stop}
 use Rattle.walk_laws.specs.declared.Stop.TheVariants.{Full}
@@ -25,11 +24,14 @@ module _ {R V : Type 0} (w : Setting R V) where
         (λ e. (e ≡ stop) × Holding old new after (before ++ lines_text (s.count + 1) (sets_of found)))
         (λ _. Broken old new (before ++ lines_text (s.count + 1) (sets_of found)))
 
-  -- a line for each set that a walk from s hands out was appended, and the walk is finished in the state t; or it broke off in them
-  pub record Chains {E : Type 0} (old new : Option (List ℕ)) (r : Result (Unit {0}) E) (s t : State R V) : Type 0 where
+  -- the lines of all sets that the walk hands out from s on come after what the page held, and the walk is finished in the state t; or it
+  -- broke off in them
+  pub record Chains {E : Type 0} (old new : Option (List ℕ)) (before after : List ℕ) (r : Result (Unit {0}) E) (s t : State R V) : Type 0 where
     pub sets : List ℕ
     pub hands : Hands w s sets
-    pub cases : MatchResult r (λ _. Appends old new (lines_text 1 sets) × Ended w s t sets) (λ _. Broken old new (lines_text 1 sets))
+    pub cases : MatchResult r
+        (λ _. Holding old new after (before ++ lines_text 1 sets) × Ended w s t sets)
+        (λ _. Broken old new (before ++ lines_text 1 sets))
 
 -- the whole list of the walk from s was appended, or it broke off in it
 pub record WholeList {R E : Type 0} (w : Setting R Shift) (old new : Option (List ℕ)) (r : Result (Unit {0}) E) (s : State R Shift) : Type 0 where

@@ -3,7 +3,7 @@ ghost use Rattle.walk.specs.States.{Keeps, setting_of, state_of};
 ghost use Rattle.listing.specs.Hands.{Begun};
 ghost use Rattle.listing.specs.Batches.{Batch, Chains};
 
-use crate::pages::{put_chains, write_page};
+use crate::pages::put_lines;
 use crate::watch::Watch;
 use lines::Page;
 use matroid::Matroid;
@@ -14,10 +14,10 @@ use std::io::Write;
 use tie_rule::TieRule;
 use walk::{Stop, Walk};
 
-/// How many chains are listed at a time.
+/// How many sets are listed at a time.
 const BATCH: usize = 1024;
 
-/// Lists the next chains of the walk and puts them on the page; answers why the list stopped.
+/// Lists the next sets of the walk and puts them on the page; answers why the list stopped.
 fn put_batch<W: Write, T: Watch, P: Matroid, R: TieRule, M: Measure>(
     out: &mut W,
     watch: &mut T,
@@ -28,31 +28,30 @@ fn put_batch<W: Write, T: Watch, P: Matroid, R: TieRule, M: Measure>(
     ensures batch { Batch (setting_of P.Matroid R.TieRule M.Measure walk.old) (W.contents out.old) (W.contents out.new) (page_text page.old) (page_text page.new) result (state_of walk.old) (state_of walk.new) }
 {
     let first = walk.look().count + 1;
+    // A fixed buffer, so that memory stays flat however long the list.
     let mut sets = [0u64; BATCH];
     let mut roll = Roll::new(&mut sets);
     let (_, stop) = walk.list(&mut roll);
-    put_chains(out, watch, page, roll.entries(), first)?;
+    put_lines(out, watch, page, roll.entries(), first)?;
     Ok(stop)
 }
 
-/// Writes all chains of the walk, until it is finished.
-pub(crate) fn write_chains<W: Write, T: Watch, P: Matroid, R: TieRule, M: Measure>(
+/// Puts all sets that the walk hands out on the page, from its start until it is finished.
+pub(crate) fn put_all<W: Write, T: Watch, P: Matroid, R: TieRule, M: Measure>(
     out: &mut W,
     watch: &mut T,
+    page: &mut Page,
     walk: &mut Walk<P, R, M>,
 ) -> io::Result<()>
     requires { Begun (setting_of P.Matroid R.TieRule M.Measure walk.old) (state_of walk.old) }
     ensures keeps { Keeps walk.old walk.new }
-    ensures chains { Chains (setting_of P.Matroid R.TieRule M.Measure walk.old) (W.contents out.old) (W.contents out.new) result (state_of walk.old) (state_of walk.new) }
+    ensures chains { Chains (setting_of P.Matroid R.TieRule M.Measure walk.old) (W.contents out.old) (W.contents out.new) (page_text page.old) (page_text page.new) result (state_of walk.old) (state_of walk.new) }
 {
-    // Fixed buffers, here and for a batch, so that memory stays flat however long the list.
-    let mut page = Page::new();
-    put_chains(out, watch, &mut page, &[walk.look().present], 1)?;
+    put_lines(out, watch, page, &[walk.look().present], 1)?;
     loop {
-        match put_batch(out, watch, &mut page, walk)? {
+        match put_batch(out, watch, page, walk)? {
             Stop::Full => {}
-            Stop::Finished => break,
+            Stop::Finished => return Ok(()),
         }
     }
-    write_page(out, watch, &mut page, walk.look().count)
 }

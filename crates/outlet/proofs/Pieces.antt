@@ -77,3 +77,7 @@ sends_last c (Err e) x h k = breaks_off h k
 pub sends_all : {E : Type 0} {a b : Option (List ℕ)} (c : Option (List ℕ)) {held text : List ℕ} (r : Result (Unit {0}) E) → Holding a b held text → Sends b c r held → Sends a c r text
 sends_all {a = a} {b = b} c {held = held} (Ok u) h k = subst (λ (t : List ℕ). Appends a c t) h.whole (appends_on a b c h.sent held h.appended k)
 sends_all c (Err e) h k = breaks_off h k
+
+-- one text sent, and then another
+pub sends_after : {E : Type 0} (a b c : Option (List ℕ)) (x y : List ℕ) (r : Result (Unit {0}) E) → Appends a b x → Sends b c r y → Sends a c r (x ++ y)
+sends_after a b c x y r h k = sends_all {a = a} {b = b} c r (record { sent = x; appended = h; whole = refl }) k

@@ -3,23 +3,22 @@ use Rattle.std.proofs.lemmas.Result.{err_from_is_err_and}
 use Rattle.lines.specs.Pages.{page_text}
 use Rattle.walk_laws.specs.declared.View.{View}
 use Rattle.walk.specs.States.{setting_of}
-use Rattle.outlet.proofs.Pieces.{sends_last}
 use Rattle.listing.proofs.Kept.{keeps_on, same_setting}
 use Rattle.listing.proofs.Written.{started, not_started, batch_on, batch_off, batch_last}
-use Rattle.listing.proofs.chains.write_chains.Goals as goal
+use Rattle.listing.proofs.chains.put_all.Goals as goal
 
-pub returns-in_err-put_chains-clause-chains : goal.returns-in_err-put_chains-clause-chains
-returns-in_err-put_chains-clause-chains g c =
+pub returns-in_err-put_lines-clause-chains : goal.returns-in_err-put_lines-clause-chains
+returns-in_err-put_lines-clause-chains g c =
     let p = err_from_is_err_and c.from_residual.result c.from_residual.ensures.1 in
-    let off = not_started (setting_of g.P.Matroid g.R.TieRule g.M.Measure c.args.walk.now) (page_text c.new-page.result) (c.look.result.present ∷ []) c.requires c.new-page.ensures
-    (ap (λ (v : View g.row.M-Value.Denot). v.present ∷ []) c.look.ensures) c.in_err-put_chains.ensures in
+    let off = not_started (setting_of g.P.Matroid g.R.TieRule g.M.Measure c.args.walk.now) (page_text c.args.page.now) (c.look.result.present ∷ []) c.requires
+    (ap (λ (v : View g.row.M-Value.Denot). v.present ∷ []) c.look.ensures) c.in_err-put_lines.ensures in
     record { sets = off.all; hands = off.hands; cases = rw p.1 off.broken }
 
 pub loop-init : goal.loop-init
 loop-init g c = (
   record { matroid = refl; measure = refl },
-  started (setting_of g.P.Matroid g.R.TieRule g.M.Measure c.args.walk.now) (page_text c.new-page.result) (c.look.result.present ∷ []) c.requires c.new-page.ensures
-      (ap (λ (v : View g.row.M-Value.Denot). v.present ∷ []) c.look.ensures) c.in_ok-put_chains.ensures,
+  started (setting_of g.P.Matroid g.R.TieRule g.M.Measure c.args.walk.now) (page_text c.args.page.now) (c.look.result.present ∷ []) c.requires
+      (ap (λ (v : View g.row.M-Value.Denot). v.present ∷ []) c.look.ensures) c.in_ok-put_lines.ensures,
 )
 
 pub returns-in_err-put_batch-clause-chains : goal.returns-in_err-put_batch-clause-chains
@@ -38,13 +37,9 @@ loop-preserved g c =
       batch_on w c.loop.invariant.1 (same_setting c.loop.invariant.0) k k.cases.1,
     )
 
-pub returns-clause-chains : goal.returns-clause-chains
-returns-clause-chains g c =
+pub returns-in-Finished-clause-chains : goal.returns-in-Finished-clause-chains
+returns-in-Finished-clause-chains g c =
     let w = setting_of g.P.Matroid g.R.TieRule g.M.Measure c.args.walk.now in
     let k = c.in_ok-put_batch.ensures.batch in
     let e = batch_last w c.loop.invariant.1 (same_setting c.loop.invariant.0) k c.requires (sym k.cases.0 ∙ c.in-Finished.is) k.cases.1 in
-    record {
-      sets = c.loop.invariant.1.all;
-      hands = c.loop.invariant.1.hands;
-      cases = sends_last (g.W.Write.contents c.write_page.new.out) c.write_page.result e.0 e.1 c.write_page.ensures.sends;
-    }
+    record { sets = c.loop.invariant.1.all; hands = c.loop.invariant.1.hands; cases = (e.1, e.0) }
