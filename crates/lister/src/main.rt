@@ -79,7 +79,7 @@ fn write_all(rt: &HostRuntime, walk: &mut SurveyWalk) -> io::Result<()> {
         across: end.total.across,
         along: end.total.along,
     };
-    println!(rt; "{line}")
+    rt.stdout().write_all(line.text().as_bytes())
 }
 
 fn run(rt: &HostRuntime) -> anyhow::Result<()> {
@@ -97,7 +97,7 @@ fn run(rt: &HostRuntime) -> anyhow::Result<()> {
                 number: refusal.fault.number(),
                 row: refusal.row,
             };
-            println!(rt; "{line}")?;
+            rt.stdout().write_all(line.text().as_bytes())?;
             Err(anyhow!("the survey is refused"))
         }
     }
