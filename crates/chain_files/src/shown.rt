@@ -1,7 +1,7 @@
 //! How entries and lists are printed.
 use chain_lists::Total;
 use chain_reader::{Entry, Summary};
-use lines::SetText;
+use lines::set_text;
 use std::fmt;
 
 /// A value as it is printed here.
@@ -13,13 +13,13 @@ pub struct Shown<T>(pub T);
 impl fmt::Display for Shown<Entry> {
     fn fmt<W: fmt::Write>(&self, f: &mut fmt::Formatter<W>) -> fmt::Result {
         match self.0 {
-            Entry::Head(n, start) => write!(f, "head {n}, set {}", SetText(start)),
+            Entry::Head(n, start) => write!(f, "head {n}, set {}", set_text(start)),
             Entry::Exchange(swap, set) => write!(
                 f,
                 "exchange {} {}, set {}",
                 swap.high,
                 swap.low,
-                SetText(set)
+                set_text(set)
             ),
             Entry::Total(total) => write!(f, "{total}"),
             Entry::End(count) => write!(f, "end {count}"),
@@ -36,8 +36,8 @@ impl fmt::Display for Shown<Summary> {
             "labels {}, {} sets from {} to {}",
             s.n,
             s.count,
-            SetText(s.start),
-            SetText(s.last)
+            set_text(s.start),
+            set_text(s.last)
         )?;
         if let Some((across, along)) = s.shift {
             write!(f, ", {}", Total::Shift(across, along))?;

@@ -1,9 +1,6 @@
--- The text of a set's labels, of which a loop has written all but the labels still to come.
-use Rattle.std.proofs.Common.{◌≡◌, ℕ, zero, suc, ◌≤◌, Bool, true, false, cond, List, [], ◌∷◌, ◌++◌, length, sym, refl, ap, ◌∙◌, append_assoc, length-append, arith}
-use Rattle.std.specs.Fmt.{IsPlainFormatter, HasWritten}
+-- The text of a set's labels, and how many there are.
+use Rattle.std.proofs.Common.{◌≡◌, ℕ, zero, suc, ◌≤◌, Bool, true, false, cond, List, [], ◌∷◌, ◌++◌, length, sym, refl, ap, ◌∙◌, length-append, arith}
 use Rattle.std.specs.List.{flat_map}
-use Rattle.std.specs.declared.fmt.Formatter.{Formatter}
-use Rattle.std.proofs.Output.{has_written_append}
 use Rattle.labels.specs.Sets.{has}
 use Rattle.labels.specs.Listed.{labels_in}
 use Rattle.labels.proofs.Upwards.{flat_labels}
@@ -23,18 +20,3 @@ labels_few s (suc n) = go (has s (suc n)) (labels_few s n)
     go : (b : Bool) → length (labels_in s n) ≤ n → length (cond b (labels_in s n ++ suc n ∷ []) (labels_in s n)) ≤ suc n
     go true h = omega (arith, length-append (labels_in s n) (suc n ∷ []))
     go false h = omega arith
-
--- of all the text, what is not that of the labels still to come is written
-pub record WrittenBut {W : Type 0} (took : W → List ℕ → W → Type 0) (text : ℕ → List ℕ) (all : List ℕ) (f : Formatter W) (left : List ℕ) (g : Formatter W) : Type 0 where
-  pub front : List ℕ
-  pub whole : front ++ flat_map text left ≡ all
-  pub put : IsPlainFormatter f → HasWritten took f front g
-
-module _ {W : Type 0} (took : W → List ℕ → W → Type 0) (text : ℕ → List ℕ) (all : List ℕ) (f : Formatter W) where
-  pub written_more : (left : List ℕ) (g : Formatter W) → WrittenBut took text all f left g → (e : ℕ) (rest : List ℕ) → left ≡ e ∷ rest
-      → (h : Formatter W) → (IsPlainFormatter g → HasWritten took g (text e) h) → WrittenBut took text all f rest h
-  written_more left g w e rest q h k = record {
-    front = w.front ++ text e;
-    whole = append_assoc w.front (text e) (flat_map text rest) ∙ ap (λ (l : List ℕ). w.front ++ flat_map text l) (sym q) ∙ w.whole;
-    put = λ p. let x = w.put p in has_written_append took f _ g _ h x (k x.plain);
-  }

@@ -7,7 +7,7 @@ mod line;
 mod line_text;
 mod page;
 mod refused_line;
-mod set_text;
+mod sets;
 #[cfg(test)]
 mod tests;
 mod total_line;
@@ -17,5 +17,5 @@ pub use line::Line;
 pub use line_text::LineText;
 pub use page::Page;
 pub use refused_line::RefusedLine;
-pub use set_text::SetText;
+pub use sets::{SetText, set_text};
 pub use total_line::TotalLine;

@@ -1,8 +1,7 @@
 ghost use Rattle.lines.specs.Text.{refused_text};
-ghost use Rattle.std.specs.Prelude.{◌≡◌, ◌++◌, Some, codes};
+ghost use Rattle.std.specs.Prelude.{◌≡◌, ◌++◌, codes};
 
 use crate::line_text::{LineText, push_number};
-use std::fmt;
 
 /// A refusal by its number, and the row that it is about.
 #[derive(Clone, Copy, Debug)]
@@ -26,14 +25,5 @@ impl RefusedLine {
         push_number(&mut text, self.row);
         text.push_str("\n");
         text
-    }
-}
-
-/// The line, without its line feed.
-impl fmt::Display for RefusedLine {
-    ghost output = { λ l. Some (refused_text l.number l.row) };
-
-    fn fmt<W: fmt::Write>(&self, f: &mut fmt::Formatter<W>) -> fmt::Result {
-        write!(f, "refused {} row {}", self.number, self.row)
     }
 }

@@ -1,8 +1,7 @@
 ghost use Rattle.lines.specs.Text.{total_text};
-ghost use Rattle.std.specs.Prelude.{◌≡◌, ◌++◌, Some, codes};
+ghost use Rattle.std.specs.Prelude.{◌≡◌, ◌++◌, codes};
 
 use crate::line_text::{LineText, push_number};
-use std::fmt;
 
 /// What a list comes to: a count, and how far across and along.
 #[derive(Clone, Copy, Debug)]
@@ -29,14 +28,5 @@ impl TotalLine {
         push_number(&mut text, self.along);
         text.push_str("\n");
         text
-    }
-}
-
-/// The line, without its line feed.
-impl fmt::Display for TotalLine {
-    ghost output = { λ l. Some (total_text l.count l.across l.along) };
-
-    fn fmt<W: fmt::Write>(&self, f: &mut fmt::Formatter<W>) -> fmt::Result {
-        write!(f, "total {} {} {}", self.count, self.across, self.along)
     }
 }

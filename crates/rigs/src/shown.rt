@@ -1,5 +1,5 @@
 //! How sets, shifts, exchanges and views are printed.
-use lines::SetText;
+use lines::set_text;
 use measure::Shift;
 use std::fmt;
 use walk::{Exchange, Stop, View};
@@ -12,7 +12,7 @@ pub struct Shown<T>(pub T);
 /// A set, by its labels.
 impl fmt::Display for Shown<u64> {
     fn fmt<W: fmt::Write>(&self, f: &mut fmt::Formatter<W>) -> fmt::Result {
-        write!(f, "{}", SetText(self.0))
+        write!(f, "{}", set_text(self.0))
     }
 }
 

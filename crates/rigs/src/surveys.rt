@@ -57,7 +57,7 @@ fn write_opening<W: Write>(out: &mut W, name: &str, text: &[u8]) -> io::Result<(
                 rank(&matroid, u64::MAX)
             )
         }
-        Err(refusal) => writeln!(out, "survey, {name}: {}", line_of(refusal)),
+        Err(refusal) => write!(out, "survey, {name}: {}", line_of(refusal).text()),
     }
 }
 
@@ -68,7 +68,7 @@ fn write_walk<W: Write>(out: &mut W, case: Case) -> anyhow::Result<()> {
     match walk_of(text) {
         Ok((_, walk)) => Ok(during(walk, |walk| write_sets(out, walk))?),
         Err(refusal) => {
-            writeln!(out, "{}", line_of(refusal))?;
+            write!(out, "{}", line_of(refusal).text())?;
             Err(anyhow!("the survey is refused"))
         }
     }

@@ -1,0 +1,3 @@
+mod Mapped
+mod Table
+mod Turns
