@@ -5,6 +5,7 @@ use Rattle.chain_lists.specs.declared.Swap.{Swap}
 use Rattle.chain_lists.specs.declared.Total.{Total}
 use Rattle.chain_lists.specs.Lists.{ChainList, Lawful, Marks, is_marked, count_of, last_set, lawful_head, lawful_swap, stands, front_of}
 use Rattle.chain_lists.specs.declared.TotalKinds.{TotalKinds}
+use Rattle.chain_writer.specs.declared.states.Blank.{Blank}
 use Rattle.chain_writer.specs.declared.states.Writer.{Writer}
 use Rattle.chain_writer.specs.declared.states.Listing.{Listing}
 use Rattle.chain_writer.specs.declared.states.WriterRefusal.{WriterRefusal}
@@ -22,16 +23,14 @@ refusal_number SecondTotal = 23
 abbrev pub put_at : ℕ → List ℕ → List ℕ → List ℕ
 put_at at bytes out = take at out ++ (bytes ++ drop (at + length bytes) out)
 
--- a call of a writer puts these bytes in at its place and goes behind them, where they have room
-pub record Puts {S : Type 0} (old : Writer S) (bytes : List ℕ) (new : Writer S) : Type 0 where
-  pub place : old.at + length bytes ≤ length old.out.now → new.at ≡ old.at + length bytes
-  pub written : old.at + length bytes ≤ length old.out.now → new.out.now ≡ put_at old.at bytes old.out.now
+-- the same where they have room; otherwise nothing changes
+abbrev pub put_in : ℕ → List ℕ → List ℕ → List ℕ
+put_in at bytes out = cond (nat_le (at + length bytes) (length out)) (put_at at bytes out) out
 
--- it changes the buffer's bytes and the place alone
-pub record Keeps {S : Type 0} (old new : Writer S) : Type 0 where
-  pub count : new.count ≡ old.count
-  pub state : new.state ≡ old.state
-  pub lender : new.out.ghost_name ≡ old.out.ghost_name
+-- a call puts these bytes in at the place `at` where they have room, and answers where they end
+pub record Puts (at : ℕ) (bytes old new : List ℕ) (end : ℕ) : Type 0 where
+  pub place : at + length bytes ≤ length old → end ≡ at + length bytes
+  pub written : new ≡ put_in at bytes old
 
 -- how many bytes records take
 abbrev pub head_size : ℕ
@@ -48,6 +47,10 @@ shift_size = 22
 
 abbrev pub lamp_size : ℕ
 lamp_size = 14
+
+-- a buffer with the head in it, as an open file
+abbrev pub opened : Blank → Listing → Writer Listing
+opened b l = record { out = b.out; at = head_size; count = 1; state = l }
 
 -- what is held back for the totals that are not written, and the end
 abbrev pub held_back : List Total → ℕ

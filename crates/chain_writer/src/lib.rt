@@ -6,5 +6,5 @@ mod putting;
 mod states;
 mod writing;
 
-pub use states::{Listing, Open, Rejected, Totals, Writer, WriterRefusal, Written};
+pub use states::{Blank, Listing, Open, Rejected, Totals, Writer, WriterRefusal, Written};
 pub use writing::begin;

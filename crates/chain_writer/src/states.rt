@@ -3,6 +3,12 @@ ghost use Rattle.std.specs.Prelude.{◌≡◌, ◌≤◌, length as length_of};
 
 use chain_lists::TotalKinds;
 
+/// A buffer that no file is begun in yet.
+#[derive(Drop)]
+pub struct Blank<'a> {
+    pub(crate) out: &'a mut [u8],
+}
+
 /// A file that is being written into the caller's buffer, in the state `S`.
 #[derive(Drop)]
 pub struct Writer<'a, S> {

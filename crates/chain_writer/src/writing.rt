@@ -1,10 +1,10 @@
 //! The calls of a writer.
 ghost use Rattle.std.specs.Prelude.{◌≡◌, ◌+◌, ◌≤◌, length, take, Some, None, MatchResult};
 ghost use Rattle.chain_lists.specs.Lists.{ChainList, Holds, begun, end_written, head_written, swap_written, total_written, with_swap, with_total};
-ghost use Rattle.chain_writer.specs.Writing.{Holding, OpenHolds, TotalsHolds, begin_refusal, exchange_refusal, put_at, refusal_number, total_refusal};
+ghost use Rattle.chain_writer.specs.Writing.{Holding, OpenHolds, TotalsHolds, begin_refusal, exchange_refusal, opened, put_at, put_in, refusal_number, total_refusal};
 
-use crate::putting::head_body;
-use crate::states::{Listing, Open, Rejected, Totals, Writer, WriterRefusal, Written};
+use crate::putting::{has_room, head_body, put_record, put_total};
+use crate::states::{Blank, Listing, Open, Rejected, Totals, Writer, WriterRefusal, Written};
 use chain_lists::{Kind, Swap, Total, TotalKinds, is_lawful_head};
 
 const HEAD_SIZE: usize = 15;
@@ -38,46 +38,80 @@ pub fn begin<'a>(out: &'a mut [u8], n: u8, start: u64) -> Result<Open<'a>, Rejec
         × (w.out.now ≡ put_at 0 (head_written n start) out.old)
         × OpenHolds w (begun n start))
         (λ e. (begin_refusal n start out.old ≡ Some e.why) × (e.out.now ≡ out.old)) }
+    ensures lender { MatchResult result
+        (λ w. w.out.ghost_name ≡ out.entry.ghost_name)
+        (λ e. e.out.ghost_name ≡ out.entry.ghost_name) }
 {
-    if !is_lawful_head(n, start) {
-        return Err(Rejected {
-            out,
-            why: WriterRefusal::WrongHead,
-        });
+    let mut blank = Blank::over(out);
+    match blank.begin(n, start) {
+        Ok(listing) => Ok(blank.into_open(listing)),
+        Err(why) => Err(Rejected {
+            out: blank.out,
+            why,
+        }),
     }
-    let mut file = Writer {
-        out,
-        at: 0,
-        count: 1,
-        state: Listing { n, present: start },
-    };
-    if !file.has_room(HEAD_SIZE + HELD_BACK) {
-        return Err(Rejected {
-            out: file.out,
-            why: WriterRefusal::ShortBuffer,
-        });
+}
+
+// In steps: the check follows a lent slice through no `Result` that holds it, so that who is to know what its buffer holds after
+// `begin` takes these.
+impl<'a> Blank<'a> {
+    /// Lends the buffer `out`.
+    pub fn over(out: &'a mut [u8]) -> Blank<'a>
+        ensures held { result.out.now ≡ out.old }
+        ensures lender { result.out.ghost_name ≡ out.entry.ghost_name }
+    {
+        Blank { out }
     }
-    file.put_record(Kind::Head, &head_body(n, start));
-    Ok(file)
+
+    /// Writes the head: labels 1 to `n`, and the set `start`. If it is refused, nothing changes.
+    pub fn begin(&mut self, n: u8, start: u64) -> Result<Listing, WriterRefusal>
+        ensures cases { MatchResult result
+            (λ l. (begin_refusal n start self.old.out.now ≡ None)
+            × (self.new.out.now ≡ put_at 0 (head_written n start) self.old.out.now)
+            × OpenHolds (opened self.new l) (begun n start))
+            (λ e. (begin_refusal n start self.old.out.now ≡ Some e) × (self.new.out.now ≡ self.old.out.now)) }
+        ensures lender { self.new.out.ghost_name ≡ self.old.out.ghost_name }
+    {
+        if !is_lawful_head(n, start) {
+            return Err(WriterRefusal::WrongHead);
+        }
+        if !has_room(self.out.len(), 0, HEAD_SIZE + HELD_BACK) {
+            return Err(WriterRefusal::ShortBuffer);
+        }
+        put_record(self.out, 0, Kind::Head, &head_body(n, start));
+        Ok(Listing { n, present: start })
+    }
+
+    /// The file behind its head, which gave this listing.
+    pub fn into_open(self, listing: Listing) -> Open<'a>
+        ensures file { result ≡ opened self.entry listing }
+        ensures lender { result.out.ghost_name ≡ self.entry.out.ghost_name }
+    {
+        Writer {
+            out: self.out,
+            at: HEAD_SIZE,
+            count: 1,
+            state: listing,
+        }
+    }
 }
 
 // What a writer holds so far is a premise of its calls: docs/DECISIONS.md, "A writer holds its buffer".
 impl<'a, S: Drop> Writer<'a, S> {
     /// Adds the end, and hands the buffer back with the file in it.
-    pub fn end(mut self) -> Written<'a>
-        ensures { (c : ChainList) → Holding self.entry.out.now self.entry.at self.entry.count c
+    pub fn end(self) -> Written<'a>
+        ensures holds { (c : ChainList) → Holding self.entry.out.now self.entry.at self.entry.count c
             → Holds (take result.length result.out.now) c
             × (result.length ≤ length result.out.now)
             × (result.length ≡ self.entry.at + length (end_written self.entry.count))
             × (result.out.now ≡ put_at self.entry.at (end_written self.entry.count) self.entry.out.now) }
+        ensures bytes { result.out.now ≡ put_in self.entry.at (end_written self.entry.count) self.entry.out.now }
+        ensures lender { result.out.ghost_name ≡ self.entry.out.ghost_name }
     {
-        let count = self.count;
-        self.put_record(Kind::End, &count.to_le_bytes());
-        let length = self.at.min(self.out.len());
-        Written {
-            out: self.out,
-            length,
-        }
+        let Writer { out, at, count, .. } = self;
+        let end = put_record(out, at, Kind::End, &count.to_le_bytes());
+        let length = end.min(out.len());
+        Written { out, length }
     }
 }
 
@@ -109,10 +143,10 @@ impl<'a> Open<'a> {
         if !swap.is_lawful(self.state.n, self.state.present) {
             return Err(WriterRefusal::WrongExchange);
         }
-        if !self.has_room(SWAP_SIZE + HELD_BACK) {
+        if !has_room(self.out.len(), self.at, SWAP_SIZE + HELD_BACK) {
             return Err(WriterRefusal::NoRoom);
         }
-        self.put_record(Kind::Exchange, &[swap.high, swap.low]);
+        self.at = put_record(self.out, self.at, Kind::Exchange, &[swap.high, swap.low]);
         self.state.present = swap.after(self.state.present);
         self.count = self.count.wrapping_add(1);
         Ok(())
@@ -120,19 +154,20 @@ impl<'a> Open<'a> {
 
     /// Adds the first total; no exchange can follow.
     pub fn total(self, total: Total) -> Totals<'a>
-        ensures { (c : ChainList) → OpenHolds self.entry c
+        ensures holds { (c : ChainList) → OpenHolds self.entry c
             → TotalsHolds result (with_total c total)
             × (result.out.now ≡ put_at self.entry.at (total_written total) self.entry.out.now) }
+        ensures bytes { result.out.now ≡ put_in self.entry.at (total_written total) self.entry.out.now }
+        ensures lender { result.out.ghost_name ≡ self.entry.out.ghost_name }
     {
         let Writer { out, at, count, .. } = self;
-        let mut file = Writer {
+        let at = put_total(out, at, total);
+        Writer {
             out,
             at,
             count,
             state: TotalKinds::EMPTY.with(total),
-        };
-        file.put_total(total);
-        file
+        }
     }
 }
 
@@ -140,7 +175,8 @@ impl<'a> Totals<'a> {
     /// Adds a total of another kind. If it is refused, nothing changes.
     pub fn total(&mut self, total: Total) -> Result<(), WriterRefusal>
         ensures cases { MatchResult result
-            (λ _. (total_refusal self.old total ≡ None))
+            (λ _. (total_refusal self.old total ≡ None)
+            × (self.new.out.now ≡ put_in self.old.at (total_written total) self.old.out.now))
             (λ e. (total_refusal self.old total ≡ Some e)
             × (self.new.out.now ≡ self.old.out.now)
             × (self.new.at ≡ self.old.at)
@@ -155,7 +191,7 @@ impl<'a> Totals<'a> {
         if self.state.has(total) {
             return Err(WriterRefusal::SecondTotal);
         }
-        self.put_total(total);
+        self.at = put_total(self.out, self.at, total);
         self.state = self.state.with(total);
         Ok(())
     }

@@ -6,9 +6,12 @@ use Rattle.chain_writer.proofs.Holdings.{ended}
 use Rattle.chain_writer.proofs.Splice.{puts_same}
 use Rattle.chain_writer.proofs.states.Writer.end.Goals as goal
 
-pub returns : goal.returns
-returns g c =
+pub returns-clause-holds : goal.returns-clause-holds
+returns-clause-holds g c =
     λ d h.
-    let held = ended h (puts_same (ap (framed End) (c.to_le_bytes.ensures ∙ sym (little_8 c.args.self.count))) c.put_record.ensures.puts) in
-    let whole : c.min-length.result ≡ c.put_record.new.self.at = omega (arith, c.min-length.ensures, held.1) in
+    let held = ended h (puts_same (ap (framed End) (c.to_le_bytes.ensures ∙ sym (little_8 c.args.self.count))) c.put_record-end.ensures) in
+    let whole : c.min-length.result ≡ c.put_record-end.result = omega (arith, c.min-length.ensures, held.1) in
     rw whole held
+
+pub returns-clause-bytes : goal.returns-clause-bytes
+returns-clause-bytes g c = (puts_same (ap (framed End) (c.to_le_bytes.ensures ∙ sym (little_8 c.args.self.count))) c.put_record-end.ensures).written
