@@ -5,8 +5,7 @@ use Rattle.chain_lists.specs.declared.Swap.{Swap}
 use Rattle.chain_lists.specs.declared.Total.{Total}
 use Rattle.chain_lists.specs.Lists.{ChainList, Lawful, Marks, is_marked, count_of, last_set, lawful_head, lawful_swap, stands, front_of}
 use Rattle.chain_lists.specs.declared.TotalKinds.{TotalKinds}
-use Rattle.chain_writer.specs.declared.states.Blank.{Blank}
-use Rattle.chain_writer.specs.declared.states.Writer.{Writer}
+use Rattle.chain_writer.specs.declared.states.Progress.{Progress}
 use Rattle.chain_writer.specs.declared.states.Listing.{Listing}
 use Rattle.chain_writer.specs.declared.states.WriterRefusal.{WriterRefusal}
 use Rattle.chain_writer.specs.declared.states.WriterRefusal.TheVariants.{ShortBuffer, NoRoom, WrongHead, WrongExchange, SecondTotal}
@@ -48,10 +47,6 @@ shift_size = 22
 abbrev pub lamp_size : ℕ
 lamp_size = 14
 
--- a buffer with the head in it, as an open file
-abbrev pub opened : Blank → Listing → Writer Listing
-opened b l = record { out = b.out; at = head_size; count = 1; state = l }
-
 -- what is held back for the totals that are not written, and the end
 abbrev pub held_back : List Total → ℕ
 held_back ts = cond (stands ShiftTotal ts) 0 shift_size + (cond (stands LampTotal ts) 0 lamp_size + end_size)
@@ -62,18 +57,18 @@ abbrev pub begin_refusal : ℕ → ℕ → List ℕ → Option WriterRefusal
 begin_refusal n start out =
     cond (lawful_head n start) (cond (nat_le (head_size + held_back []) (length out)) None (Some ShortBuffer)) (Some WrongHead)
 
-abbrev pub exchange_refusal : Writer Listing → Swap → Option WriterRefusal
-exchange_refusal w x =
-    cond (lawful_swap w.state.n w.state.present x)
-    (cond (nat_le (w.at + (swap_size + held_back [])) (length w.out.now)) None (Some NoRoom))
+abbrev pub exchange_refusal : List ℕ → Progress Listing → Swap → Option WriterRefusal
+exchange_refusal out p x =
+    cond (lawful_swap p.state.n p.state.present x)
+    (cond (nat_le (p.at + (swap_size + held_back [])) (length out)) None (Some NoRoom))
     (Some WrongExchange)
 
 -- a total of this kind was written
-abbrev pub has_total : Writer TotalKinds → Total → Bool
-has_total w t = is_marked w.state t
+abbrev pub has_total : Progress TotalKinds → Total → Bool
+has_total p t = is_marked p.state t
 
-abbrev pub total_refusal : Writer TotalKinds → Total → Option WriterRefusal
-total_refusal w t = cond (has_total w t) (Some SecondTotal) None
+abbrev pub total_refusal : Progress TotalKinds → Total → Option WriterRefusal
+total_refusal p t = cond (has_total p t) (Some SecondTotal) None
 
 -- ---- what is written
 
@@ -85,14 +80,14 @@ pub record Holding (out : List ℕ) (at count : ℕ) (c : ChainList) : Type 0 wh
   pub counted : count ≡ count_of c
   pub room : at + held_back c.totals ≤ length out
 
--- an open file that holds c so far
-pub record OpenHolds (w : Writer Listing) (c : ChainList) : Type 0 where
-  pub holding : Holding w.out.now w.at w.count c
-  pub labels : w.state.n ≡ c.n
-  pub set : w.state.present ≡ last_set c.start c.swaps
+-- an open file in this buffer that holds c so far
+pub record OpenHolds (out : List ℕ) (p : Progress Listing) (c : ChainList) : Type 0 where
+  pub holding : Holding out p.at p.count c
+  pub labels : p.state.n ≡ c.n
+  pub set : p.state.present ≡ last_set c.start c.swaps
   pub no_totals : c.totals ≡ []
 
--- a file that takes only totals and holds c so far
-pub record TotalsHolds (w : Writer TotalKinds) (c : ChainList) : Type 0 where
-  pub holding : Holding w.out.now w.at w.count c
-  pub marked : Marks w.state c.totals
+-- a file in this buffer that takes only totals and holds c so far
+pub record TotalsHolds (out : List ℕ) (p : Progress TotalKinds) (c : ChainList) : Type 0 where
+  pub holding : Holding out p.at p.count c
+  pub marked : Marks p.state c.totals

@@ -38,7 +38,7 @@ pub(crate) fn put_record(out: &mut [u8], at: usize, kind: Kind, body: &[u8]) -> 
 }
 
 /// Puts a total in at `at`, where it has room, and answers where it ends.
-pub(crate) fn put_total(out: &mut [u8], at: usize, total: Total) -> usize
+pub(crate) fn put_total_record(out: &mut [u8], at: usize, total: Total) -> usize
     ensures puts { Puts at (total_written total) out.old out.new result }
     ensures whole { Fitting total }
 {

@@ -8,24 +8,24 @@ use Rattle.chain_lists.proofs.Lawful.{head_tells}
 use Rattle.chain_writer.specs.Writing.{put_at}
 use Rattle.chain_writer.proofs.Holdings.{hold_swap, moved}
 use Rattle.chain_writer.proofs.Splice.{put_fits}
-use Rattle.chain_writer.proofs.writing.Open.exchange.Goals as goal
+use Rattle.chain_writer.proofs.filling.Progress+Listing.put_exchange.Goals as goal
 
 pub returns-clause-cases : goal.returns-clause-cases
 returns-clause-cases c =
     let s = c.args.self.now in
     let x : Swap = c.args.swap in
     let l : lawful_swap s.state.n s.state.present x ≡ true = sym c.if-not-is_lawful.ensures in
-    let k : leb (s.at + 58) (length s.out.now) ≡ true = sym c.if-not-has_room.ensures in
-    let room : s.at + 58 ≤ length s.out.now = leb-true _ _ k in
-    let fits : s.at + length (swap_written x) ≤ length s.out.now = omega (arith, room, length_swap_written x) in
-    (cond-true _ _ _ l ∙ cond-true _ _ _ k, c.put_record-self.ensures.written ∙ put_fits s.at (swap_written x) s.out.now fits)
+    let k : leb (s.at + 58) (length c.args.out.now) ≡ true = sym c.if-not-has_room.ensures in
+    let room : s.at + 58 ≤ length c.args.out.now = leb-true _ _ k in
+    let fits : s.at + length (swap_written x) ≤ length c.args.out.now = omega (arith, room, length_swap_written x) in
+    (cond-true _ _ _ l ∙ cond-true _ _ _ k, c.put_record-self.ensures.written ∙ put_fits s.at (swap_written x) c.args.out.now fits)
 
 pub returns-clause-holds : goal.returns-clause-holds
 returns-clause-holds c =
     λ d h.
     let s = c.args.self.now in
     let x : Swap = c.args.swap in
-    let out : List ℕ = s.out.now in
+    let out : List ℕ = c.args.out.now in
     let l : lawful_swap s.state.n s.state.present x ≡ true = sym c.if-not-is_lawful.ensures in
     let k : leb (s.at + 58) (length out) ≡ true = sym c.if-not-has_room.ensures in
     let room : s.at + 58 ≤ length out = leb-true _ _ k in

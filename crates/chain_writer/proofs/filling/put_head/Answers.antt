@@ -6,13 +6,13 @@ use Rattle.chain_lists.proofs.Growth.{length_head_written}
 use Rattle.chain_writer.specs.Writing.{put_at}
 use Rattle.chain_writer.proofs.Holdings.{hold_begun, moved}
 use Rattle.chain_writer.proofs.Splice.{put_fits, puts_same}
-use Rattle.chain_writer.proofs.states.Blank.begin.Goals as goal
+use Rattle.chain_writer.proofs.filling.put_head.Goals as goal
 
-pub returns-clause-cases : goal.returns-clause-cases
-returns-clause-cases c =
+pub returns : goal.returns
+returns c =
     let n : ℕ = c.args.n in
     let s : ℕ = c.args.start in
-    let out : List ℕ = c.args.self.now.out.now in
+    let out : List ℕ = c.args.out.now in
     let l : lawful_head n s ≡ true = sym c.if-not-is_lawful_head.ensures in
     let k : leb 65 (length out) ≡ true = sym c.if-not-has_room.ensures in
     let room : 65 ≤ length out = leb-true 65 (length out) k in
@@ -24,7 +24,7 @@ returns-clause-cases c =
       cond-true (lawful_head n s) _ _ l ∙ cond-true (leb 65 (length out)) _ _ k,
       bytes,
       record {
-        holding = moved _ (put_at 0 (head_written n s) out) 15 (0 + length (head_written n s)) 1 (begun n s) bytes (omega arith) (hold_begun n s out l room);
+        holding = moved _ (put_at 0 (head_written n s) out) _ (0 + length (head_written n s)) 1 (begun n s) bytes (put.place fits) (hold_begun n s out l room);
         labels = refl;
         set = refl;
         no_totals = refl;
