@@ -19,6 +19,8 @@ pub fn trip(buffer: &mut [u8], n: u8, start: u64, swap: Swap, word: u64) -> Opti
 {
     let mut open = put_head(buffer, n, start).ok()?;
     open.put_exchange(buffer, swap).ok()?;
-    let end = open.put_first_total(buffer, Total::Lamp(word)).put_end(buffer);
+    let end = open
+        .put_first_total(buffer, Total::Lamp(word))
+        .put_end(buffer);
     read(&buffer[..end]).ok()
 }

@@ -4,7 +4,6 @@ use Rattle.std.proofs.lemmas.List.{length-append, length-drop, length-take-le}
 use Rattle.chain_lists.specs.Lists.{ChainList, begun, head_written, end_written, front_of, file_of}
 use Rattle.chain_lists.proofs.Growth.{front_begun}
 use Rattle.chain_writer.specs.Writing.{Holding, put_at}
-use Rattle.chain_writer.proofs.Holdings.{room_end}
 use Rattle.chain_writer.proofs.Splice.{length_put, put_after}
 
 -- a buffer that held `before` holds c without its end, and the rest of what it held

@@ -39,7 +39,10 @@ fn a_refused_head(rt: HostRuntime) {
     let mut buffer = [7; 100];
     let why = head_alone(&mut buffer[..64], 3, 0b1).map(WriterRefusal::number);
     assert_eq!(rt; why, Some(12));
-    assert_eq!(rt; head_alone(&mut buffer, 3, 0b1000).map(WriterRefusal::number), Some(21));
+    assert_eq!(rt;
+        head_alone(&mut buffer, 3, 0b1000).map(WriterRefusal::number),
+        Some(21)
+    );
     assert_eq!(rt; buffer, [7; 100]);
 }
 

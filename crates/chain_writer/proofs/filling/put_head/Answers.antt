@@ -19,8 +19,7 @@ returns c =
     let size = length_head_written n s in
     let fits : 0 + length (head_written n s) ≤ length out = omega arith in
     let put = puts_same (ap (framed Head) c.head_body.ensures) c.put_record.ensures in
-    let bytes = put.written ∙ put_fits 0 (head_written n s) out fits in
-    (
+    let bytes = put.written ∙ put_fits 0 (head_written n s) out fits in (
       cond-true (lawful_head n s) _ _ l ∙ cond-true (leb 65 (length out)) _ _ k,
       bytes,
       record {

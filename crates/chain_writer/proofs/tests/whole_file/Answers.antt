@@ -19,8 +19,7 @@ returns c =
     let b₀ = behind_begun 3 c.args.start head.1 head.2.holding in
     let b₁ = behind_more (swap_written c.args.swap) b₀ head.2.holding c.in_ok-put_exchange.ensures.cases.1 (front_swap_more none c.args.swap refl) swapped.holding in
     let b₂ = behind_more (total_written c.args.first) b₁ swapped.holding first.1 (front_total_more one c.args.first) first.0.holding in
-    let b₃ = behind_more (total_written c.args.second) b₂ first.0.holding second.1 (front_total_more two c.args.second) second.0.holding in
-    (
+    let b₃ = behind_more (total_written c.args.second) b₂ first.0.holding second.1 (front_total_more two c.args.second) second.0.holding in (
       ended.1 ∙ omega (arith, second.0.holding.place, length-append (front_of three) (end_written c.put_total.new.self.count)) ∙ ap (λ (k : ℕ). length (front_of three ++ end_written k)) second.0.holding.counted,
       behind_ended b₃ second.0.holding ended.2,
     )
