@@ -1,7 +1,7 @@
 //! The records of a file, put one after the other into a buffer that stays with the caller.
 ghost use Rattle.std.specs.Prelude.{◌≡◌, ◌+◌, ◌≤◌, length, take, Some, None, MatchResult};
 ghost use Rattle.chain_lists.specs.Lists.{ChainList, Holds, begun, end_written, head_written, swap_written, total_written, with_swap, with_total};
-ghost use Rattle.chain_writer.specs.Writing.{Holding, OpenHolds, TotalsHolds, begin_refusal, exchange_refusal, put_at, put_in, total_refusal};
+ghost use Rattle.chain_writer.specs.Writing.{Holding, OpenHolds, Puts, TotalsHolds, begin_refusal, exchange_refusal, put_at, total_refusal};
 
 use crate::putting::{has_room, head_body, put_record, put_total_record};
 use crate::states::{Listing, Progress, WriterRefusal};
@@ -64,7 +64,8 @@ impl Progress<Listing> {
         ensures holds { (c : ChainList) → OpenHolds out.old self c
             → TotalsHolds out.new result (with_total c total)
             × (out.new ≡ put_at self.at (total_written total) out.old) }
-        ensures bytes { out.new ≡ put_in self.at (total_written total) out.old }
+        ensures puts { Puts self.at (total_written total) out.old out.new result.at }
+        ensures counted { result.count ≡ self.count }
     {
         Progress {
             at: put_total_record(out, self.at, total),
@@ -79,7 +80,7 @@ impl Progress<TotalKinds> {
     pub fn put_total(&mut self, out: &mut [u8], total: Total) -> Result<(), WriterRefusal>
         ensures cases { MatchResult result
             (λ _. (total_refusal self.old total ≡ None)
-            × (out.new ≡ put_in self.old.at (total_written total) out.old))
+            × Puts self.old.at (total_written total) out.old out.new self.new.at)
             (λ e. (total_refusal self.old total ≡ Some e) × (out.new ≡ out.old) × (self.new ≡ self.old)) }
         ensures counted { self.new.count ≡ self.old.count }
         ensures holds { (c : ChainList) → TotalsHolds out.old self.old c → MatchResult result
@@ -105,7 +106,7 @@ impl<S: Drop> Progress<S> {
             × (result ≡ self.at + length (end_written self.count))
             × (out.new ≡ put_at self.at (end_written self.count) out.old) }
         ensures within { result ≤ length out.new }
-        ensures bytes { out.new ≡ put_in self.at (end_written self.count) out.old }
+        ensures puts { Puts self.at (end_written self.count) out.old out.new result }
     {
         let end = put_record(out, self.at, Kind::End, &self.count.to_le_bytes());
         end.min(out.len())

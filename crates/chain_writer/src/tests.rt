@@ -46,14 +46,19 @@ fn a_refused_head(rt: HostRuntime) {
     assert_eq!(rt; buffer, [7; 100]);
 }
 
-/// The same file by a writer.
+/// The same file by a writer, in the same buffer.
 fn lent_file<'a>(
     buffer: &'a mut [u8],
     start: u64,
     swap: Swap,
     first: Total,
     second: Total,
-) -> Result<Written<'a>, WriterRefusal> {
+) -> Result<Written<'a>, WriterRefusal>
+    ensures { IfOk result (λ written.
+        let list = with_total (with_total (with_swap (begun 3 start) swap) first) second in
+        (written.length ≡ length (file_of list)) × (written.out.now ≡ put_at 0 (file_of list) buffer.old)
+        × (written.out.ghost_name ≡ buffer.entry.ghost_name)) }
+{
     let mut file = begin(buffer, 3, start)?;
     file.exchange(swap)?;
     let mut totals = file.total(first);

@@ -1,7 +1,7 @@
 //! The calls of a writer.
 ghost use Rattle.std.specs.Prelude.{◌≡◌, ◌+◌, ◌≤◌, length, take, Some, None, MatchResult};
 ghost use Rattle.chain_lists.specs.Lists.{ChainList, Holds, begun, end_written, head_written, swap_written, total_written, with_swap, with_total};
-ghost use Rattle.chain_writer.specs.Writing.{Holding, OpenHolds, TotalsHolds, begin_refusal, exchange_refusal, put_at, put_in, refusal_number, total_refusal};
+ghost use Rattle.chain_writer.specs.Writing.{Holding, OpenHolds, Puts, TotalsHolds, begin_refusal, exchange_refusal, put_at, refusal_number, total_refusal};
 
 use crate::filling::put_head;
 use crate::states::{Open, Rejected, Totals, Writer, WriterRefusal, Written};
@@ -48,7 +48,8 @@ impl<'a, S: Drop> Writer<'a, S> {
             × (result.length ≤ length result.out.now)
             × (result.length ≡ self.entry.progress.at + length (end_written self.entry.progress.count))
             × (result.out.now ≡ put_at self.entry.progress.at (end_written self.entry.progress.count) self.entry.out.now) }
-        ensures bytes { result.out.now ≡ put_in self.entry.progress.at (end_written self.entry.progress.count) self.entry.out.now }
+        ensures puts { Puts self.entry.progress.at (end_written self.entry.progress.count)
+            self.entry.out.now result.out.now result.length }
         ensures lender { result.out.ghost_name ≡ self.entry.out.ghost_name }
     {
         let Writer { out, progress } = self;
@@ -89,7 +90,8 @@ impl<'a> Open<'a> {
         ensures holds { (c : ChainList) → OpenHolds self.entry.out.now self.entry.progress c
             → TotalsHolds result.out.now result.progress (with_total c total)
             × (result.out.now ≡ put_at self.entry.progress.at (total_written total) self.entry.out.now) }
-        ensures bytes { result.out.now ≡ put_in self.entry.progress.at (total_written total) self.entry.out.now }
+        ensures puts { Puts self.entry.progress.at (total_written total) self.entry.out.now result.out.now result.progress.at }
+        ensures counted { result.progress.count ≡ self.entry.progress.count }
         ensures lender { result.out.ghost_name ≡ self.entry.out.ghost_name }
     {
         let Writer { out, progress } = self;
@@ -103,7 +105,7 @@ impl<'a> Totals<'a> {
     pub fn total(&mut self, total: Total) -> Result<(), WriterRefusal>
         ensures cases { MatchResult result
             (λ _. (total_refusal self.old.progress total ≡ None)
-            × (self.new.out.now ≡ put_in self.old.progress.at (total_written total) self.old.out.now))
+            × Puts self.old.progress.at (total_written total) self.old.out.now self.new.out.now self.new.progress.at)
             (λ e. (total_refusal self.old.progress total ≡ Some e)
             × (self.new.out.now ≡ self.old.out.now)
             × (self.new.progress ≡ self.old.progress)) }
