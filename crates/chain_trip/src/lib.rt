@@ -3,24 +3,24 @@
 #![tactic(auto)]
 
 ghost use Rattle.chain_reader.specs.Reading.{Summarises};
-ghost use Rattle.chain_trip.specs.Trip.{lawful_trip, trip_of};
+ghost use Rattle.chain_trip.specs.Trip.{lawful_trip, left_by, trip_of};
 ghost use Rattle.std.specs.Prelude.{◌≡◌, true, false, length, MatchOption};
 
 use chain_lists::{Swap, Total};
 use chain_reader::{Summary, read};
-use chain_writer::begin;
+use chain_writer::put_head;
 
-/// Writes a start set, an exchange and a lamp total as a file into the buffer, and reads it back; none, if the writer refused.
+/// Puts a start set, an exchange and a lamp total as a file into the buffer, and reads it back; none, if the writer refused.
 pub fn trip(buffer: &mut [u8], n: u8, start: u64, swap: Swap, word: u64) -> Option<Summary>
-    ensures { MatchOption result
+    ensures summary { MatchOption result
         (lawful_trip n start swap (length buffer.old) ≡ false)
         (λ s. (lawful_trip n start swap (length buffer.old) ≡ true) × Summarises s (trip_of n start swap word)) }
+    ensures left { buffer.new ≡ left_by n start swap word buffer.old }
 {
-    // Not `ok()?`: tried, and the check does not cover it, since both sides of the result hold the lent buffer.
-    let Ok(mut file) = begin(buffer, n, start) else {
-        return None;
-    };
-    file.exchange(swap).ok()?;
-    let written = file.total(Total::Lamp(word)).end();
-    read(written.file()).ok()
+    let mut open = put_head(buffer, n, start).ok()?;
+    open.put_exchange(buffer, swap).ok()?;
+    let end = open
+        .put_first_total(buffer, Total::Lamp(word))
+        .put_end(buffer);
+    read(&buffer[..end]).ok()
 }

@@ -7,9 +7,8 @@ use Rattle.chain_lists.specs.declared.Total.{Total}
 use Rattle.chain_lists.specs.declared.Total.TheVariants.{Shift, Lamp}
 use Rattle.chain_lists.specs.Lists.{ChainList, Fitting, Holds, begun, with_swap, with_total, last_set, count_of, lawful_head, lawful_swap, total_kind, stands, head_written, swap_written, total_written, end_written, front_of}
 use Rattle.chain_lists.proofs.Growth.{lawful_begun, front_begun, lawful_swap_more, front_swap_more, count_swap_more, lawful_total_more, front_total_more, stands_more, length_front_le, length_head_written, length_swap_written, length_end_written, length_shift_written, length_lamp_written}
-use Rattle.chain_writer.specs.declared.states.Writer.{Writer}
-use Rattle.chain_writer.specs.Writing.{Holding, Keeps, Puts, put_at, held_back}
-use Rattle.chain_writer.proofs.Splice.{length_put, take_put}
+use Rattle.chain_writer.specs.Writing.{Holding, Puts, put_at, held_back}
+use Rattle.chain_writer.proofs.Splice.{length_put, put_fits, take_put}
 
 -- the same buffer, place and count under other names
 pub moved
@@ -108,14 +107,14 @@ hold_total out at count c t h new f =
 
 -- the total that a call puts in
 pub totalled
-    : {S : Type 0} {old new : Writer S} {c : ChainList} (t : Total)
-    → Holding old.out.now old.at old.count c → stands (total_kind t) c.totals ≡ false → Fitting t
-    → Puts old (total_written t) new → Keeps old new
-    → Holding new.out.now new.at new.count (with_total c t) × (new.out.now ≡ put_at old.at (total_written t) old.out.now)
-totalled {S} {old} {new} {c} t h fresh f p keeps =
-    let room = room_total old.out.now old.at old.count c t h fresh in
-    let held = hold_total old.out.now old.at old.count c t h fresh f in
-    (rw keeps.count (moved _ _ _ _ old.count (with_total c t) (p.written room) (p.place room) held), p.written room)
+    : {out new : List ℕ} {at end count : ℕ} {c : ChainList} (t : Total)
+    → Holding out at count c → stands (total_kind t) c.totals ≡ false → Fitting t
+    → Puts at (total_written t) out new end
+    → Holding new end count (with_total c t) × (new ≡ put_at at (total_written t) out)
+totalled {out} {new} {at} {end} {count} {c} t h fresh f p =
+    let room = room_total out at count c t h fresh in
+    let bytes = p.written ∙ put_fits at (total_written t) out room in
+    (moved _ _ _ _ count (with_total c t) bytes (p.place room) (hold_total out at count c t h fresh f), bytes)
 
 -- ---- the end
 
@@ -138,16 +137,15 @@ holds_ended out at count c h =
 
 -- what a call that puts the end in leaves
 pub ended
-    : {S : Type 0} {old new : Writer S} {c : ChainList}
-    → Holding old.out.now old.at old.count c → Puts old (end_written old.count) new
-    → Holds (take new.at new.out.now) c
-    × (new.at ≤ length new.out.now)
-    × (new.at ≡ old.at + length (end_written old.count))
-    × (new.out.now ≡ put_at old.at (end_written old.count) old.out.now)
-ended {S} {old} {new} {c} h p =
-    let room = room_end old.out.now old.at old.count c h in
-    let at = p.place room in
-    let out = p.written room in
-    let fits : new.at ≤ length new.out.now =
-    omega (arith, at, ap length out, length_put old.at (end_written old.count) old.out.now room, room) in
-    (rw (at, out) (holds_ended old.out.now old.at old.count c h), fits, at, out)
+    : {out new : List ℕ} {at end count : ℕ} {c : ChainList}
+    → Holding out at count c → Puts at (end_written count) out new end
+    → Holds (take end new) c
+    × (end ≤ length new)
+    × (end ≡ at + length (end_written count))
+    × (new ≡ put_at at (end_written count) out)
+ended {out} {new} {at} {end} {count} {c} h p =
+    let room = room_end out at count c h in
+    let place = p.place room in
+    let bytes = p.written ∙ put_fits at (end_written count) out room in
+    let fits : end ≤ length new = omega (arith, place, ap length bytes, length_put at (end_written count) out room, room) in
+    (rw (place, bytes) (holds_ended out at count c h), fits, place, bytes)

@@ -1,2 +1,3 @@
 pub mod Splice
 pub mod Holdings
+pub mod Behind

@@ -1,11 +1,12 @@
 -- Bytes that are put into a buffer: what stands before their end, and what stays.
-use Rattle.std.proofs.Common.{◌≡◌, ℕ, ◌+◌, ◌≤◌, List, ◌++◌, length, take, drop, ℤ, sym, ap, ◌∙◌, subst, arith, w64, SFits, to_z, of_z}
+use Rattle.std.proofs.Common.{◌≡◌, ℕ, ◌+◌, ◌<◌, ◌≤◌, List, ◌++◌, length, take, drop, ℤ, sym, ap, ◌∙◌, subst, arith, w64, SFits, to_z, of_z}
 use Rattle.std.proofs.lemmas.List.{append_assoc, drop_at, drop-drop, length-append, length-drop, length-take-le, take_at}
+use Rattle.std.proofs.lemmas.Bool.{cond-true, cond-false, le-leb, lt-leb}
 use Rattle.std.proofs.lemmas.Int.{to_z-of_z}
 use Rattle.chain_lists.specs.declared.Kind.{Kind}
 use Rattle.chain_lists.specs.Lists.{little, framed, kind_length, kind_number}
-use Rattle.chain_writer.specs.declared.states.Writer.{Writer}
-use Rattle.chain_writer.specs.Writing.{Puts, put_at}
+use Rattle.chain_lists.proofs.Bytes.{length_framed, length_little}
+use Rattle.chain_writer.specs.Writing.{Puts, put_at, put_in}
 
 -- how long what stands before the end of the bytes is
 length_before : (a : ℕ) (ys xs : List ℕ) → a ≤ length xs → length (take a xs ++ ys) ≡ a + length ys
@@ -48,43 +49,55 @@ put_after a ys zs xs h =
     ∙ ap (λ (q : List ℕ). take a xs ++ q) (sym (append_assoc ys zs (drop (b + length zs) xs)))
     ∙ ap (λ (k : ℕ). take a xs ++ ((ys ++ zs) ++ drop k xs)) (sym same)
 
--- ---- what calls put in, one after the other
+-- ---- where there is room
+
+pub put_fits : (a : ℕ) (ys xs : List ℕ) → a + length ys ≤ length xs → put_in a ys xs ≡ put_at a ys xs
+put_fits a ys xs h = cond-true _ _ _ (le-leb _ _ h)
+
+pub put_not : (a : ℕ) (ys xs : List ℕ) → length xs < a + length ys → put_in a ys xs ≡ xs
+put_not a ys xs h = cond-false _ _ _ (lt-leb _ _ h)
+
+-- ---- what calls put in
 
 -- bytes that are put in, in other words
-pub puts_same : {S : Type 0} {old new : Writer S} {ys zs : List ℕ} → ys ≡ zs → Puts old ys new → Puts old zs new
-puts_same {S} {old} {new} e p = subst (λ (q : List ℕ). Puts old q new) e p
+pub puts_same : {at end : ℕ} {old new ys zs : List ℕ} → ys ≡ zs → Puts at ys old new end → Puts at zs old new end
+puts_same {at} {end} {old} {new} e p = subst (λ (q : List ℕ). Puts at q old new end) e p
 
-pub puts_after : {S : Type 0} {w w₁ w₂ : Writer S} {ys zs : List ℕ} → Puts w ys w₁ → Puts w₁ zs w₂ → Puts w (ys ++ zs) w₂
-puts_after {S} {w} {w₁} {w₂} {ys} {zs} p q =
-    record {
-      place =
-          λ h. let f : w.at + length ys ≤ length w.out.now = first h in let g = second h in omega (arith, p.place f, q.place g, length-append ys zs);
-      written =
-          λ h.
-          let f = first h in
-          q.written (second h)
-          ∙ ap (λ (k : ℕ). put_at k zs w₁.out.now) (p.place f)
-          ∙ ap (put_at (w.at + length ys) zs) (p.written f)
-          ∙ put_after w.at ys zs w.out.now f;
-    }
-  where
-    first : w.at + length (ys ++ zs) ≤ length w.out.now → w.at + length ys ≤ length w.out.now
-    first h = omega (arith, h, length-append ys zs)
-
-    second : w.at + length (ys ++ zs) ≤ length w.out.now → w₁.at + length zs ≤ length w₁.out.now
-    second h =
-        let f = first h in
-        omega (arith, h, length-append ys zs, p.place f, ap length (p.written f), length_put w.at ys w.out.now f)
-
--- the length, the kind and the body of a record
+-- the length, the kind and the body of a record, one after the other
 pub puts_framed
-    : {S : Type 0} {w w₁ w₂ w₃ : Writer S} (k : Kind) {body ls ks : List ℕ}
-    → ls ≡ little 4 (kind_length k) → ks ≡ little 2 (kind_number k)
-    → Puts w ls w₁ → Puts w₁ ks w₂ → Puts w₂ body w₃ → Puts w (framed k body) w₃
-puts_framed k {body} {ls} {ks} d e p q r =
+    : (k : Kind) (at : ℕ) (body : List ℕ) {ls ks old old₁ old₂ new : List ℕ} {kind_at body_at end : ℕ}
+    → ls ≡ little 4 (kind_length k) → ks ≡ little 2 (kind_number k) → at + length (framed k body) ≤ length old
+    → kind_at ≡ at + length ls → old₁ ≡ put_at at ls old
+    → body_at ≡ kind_at + length ks → old₂ ≡ put_at kind_at ks old₁
+    → end ≡ body_at + length body → new ≡ put_at body_at body old₂
+    → Puts at (framed k body) old new end
+puts_framed k at body {ls} {ks} {old} {old₁} {old₂} {new} {kind_at} {body_at} {end} d e room p₁ w₁ p₂ w₂ p₃ w₃ =
     puts_same
     (append_assoc ls ks body ∙ ap (λ (l : List ℕ). l ++ (ks ++ body)) d ∙ ap (λ (l : List ℕ). little 4 (kind_length k) ++ (l ++ body)) e)
-    (puts_after (puts_after p q) r)
+    (record { place = λ h. omega (arith, p₁, p₂, p₃, both, all); written = made ∙ sym (put_fits at ((ls ++ ks) ++ body) old fits) })
+  where
+    both : length (ls ++ ks) ≡ length ls + length ks
+    both = length-append ls ks
+
+    all : length ((ls ++ ks) ++ body) ≡ length (ls ++ ks) + length body
+    all = length-append (ls ++ ks) body
+
+    fits : at + length ((ls ++ ks) ++ body) ≤ length old
+    fits = omega (arith, room, length_framed k body, ap length d, ap length e, length_little 4 (kind_length k), length_little 2 (kind_number k), both, all)
+
+    two : old₂ ≡ put_at at (ls ++ ks) old
+    two =
+        w₂
+        ∙ ap (λ (a : ℕ). put_at a ks old₁) p₁
+        ∙ ap (put_at (at + length ls) ks) w₁
+        ∙ put_after at ls ks old (omega (arith, fits, both, all))
+
+    made : new ≡ put_at at ((ls ++ ks) ++ body) old
+    made =
+        w₃
+        ∙ ap (λ (a : ℕ). put_at a body old₂) (omega (arith, p₁, p₂, both))
+        ∙ ap (put_at (at + length (ls ++ ks)) body) two
+        ∙ put_after at (ls ++ ks) body old (omega (arith, fits, all))
 
 -- signed numbers, as a caller passes them
 pub eights_same

@@ -5,7 +5,7 @@ use Rattle.chain_lists.specs.declared.Swap.{Swap}
 use Rattle.chain_lists.specs.declared.Total.{Total}
 use Rattle.chain_lists.specs.Lists.{ChainList, Lawful, Marks, is_marked, count_of, last_set, lawful_head, lawful_swap, stands, front_of}
 use Rattle.chain_lists.specs.declared.TotalKinds.{TotalKinds}
-use Rattle.chain_writer.specs.declared.states.Writer.{Writer}
+use Rattle.chain_writer.specs.declared.states.Progress.{Progress}
 use Rattle.chain_writer.specs.declared.states.Listing.{Listing}
 use Rattle.chain_writer.specs.declared.states.WriterRefusal.{WriterRefusal}
 use Rattle.chain_writer.specs.declared.states.WriterRefusal.TheVariants.{ShortBuffer, NoRoom, WrongHead, WrongExchange, SecondTotal}
@@ -22,16 +22,14 @@ refusal_number SecondTotal = 23
 abbrev pub put_at : ℕ → List ℕ → List ℕ → List ℕ
 put_at at bytes out = take at out ++ (bytes ++ drop (at + length bytes) out)
 
--- a call of a writer puts these bytes in at its place and goes behind them, where they have room
-pub record Puts {S : Type 0} (old : Writer S) (bytes : List ℕ) (new : Writer S) : Type 0 where
-  pub place : old.at + length bytes ≤ length old.out.now → new.at ≡ old.at + length bytes
-  pub written : old.at + length bytes ≤ length old.out.now → new.out.now ≡ put_at old.at bytes old.out.now
+-- the same where they have room; otherwise nothing changes
+abbrev pub put_in : ℕ → List ℕ → List ℕ → List ℕ
+put_in at bytes out = cond (nat_le (at + length bytes) (length out)) (put_at at bytes out) out
 
--- it changes the buffer's bytes and the place alone
-pub record Keeps {S : Type 0} (old new : Writer S) : Type 0 where
-  pub count : new.count ≡ old.count
-  pub state : new.state ≡ old.state
-  pub lender : new.out.ghost_name ≡ old.out.ghost_name
+-- a call puts these bytes in at the place `at` where they have room, and answers where they end
+pub record Puts (at : ℕ) (bytes old new : List ℕ) (end : ℕ) : Type 0 where
+  pub place : at + length bytes ≤ length old → end ≡ at + length bytes
+  pub written : new ≡ put_in at bytes old
 
 -- how many bytes records take
 abbrev pub head_size : ℕ
@@ -59,18 +57,18 @@ abbrev pub begin_refusal : ℕ → ℕ → List ℕ → Option WriterRefusal
 begin_refusal n start out =
     cond (lawful_head n start) (cond (nat_le (head_size + held_back []) (length out)) None (Some ShortBuffer)) (Some WrongHead)
 
-abbrev pub exchange_refusal : Writer Listing → Swap → Option WriterRefusal
-exchange_refusal w x =
-    cond (lawful_swap w.state.n w.state.present x)
-    (cond (nat_le (w.at + (swap_size + held_back [])) (length w.out.now)) None (Some NoRoom))
+abbrev pub exchange_refusal : List ℕ → Progress Listing → Swap → Option WriterRefusal
+exchange_refusal out p x =
+    cond (lawful_swap p.state.n p.state.present x)
+    (cond (nat_le (p.at + (swap_size + held_back [])) (length out)) None (Some NoRoom))
     (Some WrongExchange)
 
 -- a total of this kind was written
-abbrev pub has_total : Writer TotalKinds → Total → Bool
-has_total w t = is_marked w.state t
+abbrev pub has_total : Progress TotalKinds → Total → Bool
+has_total p t = is_marked p.state t
 
-abbrev pub total_refusal : Writer TotalKinds → Total → Option WriterRefusal
-total_refusal w t = cond (has_total w t) (Some SecondTotal) None
+abbrev pub total_refusal : Progress TotalKinds → Total → Option WriterRefusal
+total_refusal p t = cond (has_total p t) (Some SecondTotal) None
 
 -- ---- what is written
 
@@ -82,14 +80,14 @@ pub record Holding (out : List ℕ) (at count : ℕ) (c : ChainList) : Type 0 wh
   pub counted : count ≡ count_of c
   pub room : at + held_back c.totals ≤ length out
 
--- an open file that holds c so far
-pub record OpenHolds (w : Writer Listing) (c : ChainList) : Type 0 where
-  pub holding : Holding w.out.now w.at w.count c
-  pub labels : w.state.n ≡ c.n
-  pub set : w.state.present ≡ last_set c.start c.swaps
+-- an open file in this buffer that holds c so far
+pub record OpenHolds (out : List ℕ) (p : Progress Listing) (c : ChainList) : Type 0 where
+  pub holding : Holding out p.at p.count c
+  pub labels : p.state.n ≡ c.n
+  pub set : p.state.present ≡ last_set c.start c.swaps
   pub no_totals : c.totals ≡ []
 
--- a file that takes only totals and holds c so far
-pub record TotalsHolds (w : Writer TotalKinds) (c : ChainList) : Type 0 where
-  pub holding : Holding w.out.now w.at w.count c
-  pub marked : Marks w.state c.totals
+-- a file in this buffer that takes only totals and holds c so far
+pub record TotalsHolds (out : List ℕ) (p : Progress TotalKinds) (c : ChainList) : Type 0 where
+  pub holding : Holding out p.at p.count c
+  pub marked : Marks p.state c.totals

@@ -1,56 +1,52 @@
-//! Records in the buffer of a writer.
+//! Records in a buffer, each at a place of it.
 ghost use Rattle.std.specs.Prelude.{◌≡◌, ◌+◌, ◌≤◌, ◌∷◌, ◌++◌, length, nat_le};
 ghost use Rattle.chain_lists.specs.Lists.{Fitting, framed, little, total_written};
-ghost use Rattle.chain_writer.specs.Writing.{Keeps, Puts, put_at};
+ghost use Rattle.chain_writer.specs.Writing.{Puts, put_at};
 ghost use Rattle.std.specs.Int.{w64};
 ghost use Rattle.std.proofs.Common.{of_z};
 
-use crate::states::Writer;
 use chain_lists::{FRAME, Kind, Total};
 
-impl<'a, S> Writer<'a, S> {
-    /// Whether `size` bytes are left.
-    pub(crate) fn has_room(&self, size: usize) -> bool
-        ensures { result ≡ nat_le (self.now.at + size) (length self.now.out.now) }
-    {
-        self.at <= self.out.len() && self.out.len() - self.at >= size
-    }
+/// Whether `size` bytes are left behind the place `at` of a buffer of this length.
+pub(crate) fn has_room(length: usize, at: usize, size: usize) -> bool
+    ensures { result ≡ nat_le (at + size) length }
+{
+    at <= length && length - at >= size
+}
 
-    fn put(&mut self, bytes: &[u8])
-        requires { self.old.at + length bytes.now ≤ length self.old.out.now }
-        ensures puts { Puts self.old bytes.now self.new }
-        ensures keeps { Keeps self.old self.new }
-    {
-        let end = self.at + bytes.len();
-        self.out[self.at..end].copy_from_slice(bytes);
-        self.at = end;
-    }
+// Puts bytes in at `at`, and answers where they end.
+fn put(out: &mut [u8], at: usize, bytes: &[u8]) -> usize
+    requires { at + length bytes.now ≤ length out.old }
+    ensures place { result ≡ at + length bytes.now }
+    ensures written { out.new ≡ put_at at bytes.now out.old }
+{
+    let end = at + bytes.len();
+    out[at..end].copy_from_slice(bytes);
+    end
+}
 
-    /// Writes a record where it has room.
-    pub(crate) fn put_record(&mut self, kind: Kind, body: &[u8])
-        ensures puts { Puts self.old (framed kind body.now) self.new }
-        ensures keeps { Keeps self.old self.new }
-    {
-        if body.len() > self.out.len() || !self.has_room(FRAME + body.len()) {
-            return;
+/// Puts a record in at `at`, where it has room, and answers where it ends.
+pub(crate) fn put_record(out: &mut [u8], at: usize, kind: Kind, body: &[u8]) -> usize
+    ensures { Puts at (framed kind body.now) out.old out.new result }
+{
+    if body.len() > out.len() || !has_room(out.len(), at, FRAME + body.len()) {
+        return at;
+    }
+    let kind_at = put(out, at, &kind.length().to_le_bytes());
+    let body_at = put(out, kind_at, &kind.number().to_le_bytes());
+    put(out, body_at, body)
+}
+
+/// Puts a total in at `at`, where it has room, and answers where it ends.
+pub(crate) fn put_total_record(out: &mut [u8], at: usize, total: Total) -> usize
+    ensures puts { Puts at (total_written total) out.old out.new result }
+    ensures whole { Fitting total }
+{
+    match total {
+        Total::Shift(across, along) => {
+            put_record(out, at, Kind::ShiftTotal, &shift_body(across, along))
         }
-        self.put(&kind.length().to_le_bytes());
-        self.put(&kind.number().to_le_bytes());
-        self.put(body);
-    }
-
-    /// Writes a total where it has room.
-    pub(crate) fn put_total(&mut self, total: Total)
-        ensures puts { Puts self.old (total_written total) self.new }
-        ensures whole { Fitting total }
-        ensures keeps { Keeps self.old self.new }
-    {
-        match total {
-            Total::Shift(across, along) => {
-                self.put_record(Kind::ShiftTotal, &shift_body(across, along));
-            }
-            Total::Lamp(word) => self.put_record(Kind::LampTotal, &word.to_le_bytes()),
-        }
+        Total::Lamp(word) => put_record(out, at, Kind::LampTotal, &word.to_le_bytes()),
     }
 }
 

@@ -3,14 +3,20 @@ ghost use Rattle.std.specs.Prelude.{◌≡◌, ◌≤◌, length as length_of};
 
 use chain_lists::TotalKinds;
 
-/// A file that is being written into the caller's buffer, in the state `S`.
+/// How far a file is written, in the state `S`. The buffer that it stands in is passed to each call.
 #[derive(Drop)]
-pub struct Writer<'a, S> {
-    // The caller lends the buffer, since nothing here may ask for memory; so a place stands beside it.
-    pub(crate) out: &'a mut [u8],
+pub struct Progress<S> {
     pub(crate) at: usize,
     pub(crate) count: u64,
     pub(crate) state: S,
+}
+
+/// A file that is being written into the caller's buffer, in the state `S`.
+#[derive(Drop)]
+pub struct Writer<'a, S> {
+    // The caller lends the buffer, since nothing here may ask for memory.
+    pub(crate) out: &'a mut [u8],
+    pub(crate) progress: Progress<S>,
 }
 
 /// The labels of a file and its last set.

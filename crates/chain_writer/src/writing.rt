@@ -1,18 +1,11 @@
 //! The calls of a writer.
 ghost use Rattle.std.specs.Prelude.{◌≡◌, ◌+◌, ◌≤◌, length, take, Some, None, MatchResult};
 ghost use Rattle.chain_lists.specs.Lists.{ChainList, Holds, begun, end_written, head_written, swap_written, total_written, with_swap, with_total};
-ghost use Rattle.chain_writer.specs.Writing.{Holding, OpenHolds, TotalsHolds, begin_refusal, exchange_refusal, put_at, refusal_number, total_refusal};
+ghost use Rattle.chain_writer.specs.Writing.{Holding, OpenHolds, Puts, TotalsHolds, begin_refusal, exchange_refusal, put_at, refusal_number, total_refusal};
 
-use crate::putting::head_body;
-use crate::states::{Listing, Open, Rejected, Totals, Writer, WriterRefusal, Written};
-use chain_lists::{Kind, Swap, Total, TotalKinds, is_lawful_head};
-
-const HEAD_SIZE: usize = 15;
-
-const SWAP_SIZE: usize = 8;
-
-// Both totals and the end.
-const HELD_BACK: usize = 50;
+use crate::filling::put_head;
+use crate::states::{Open, Rejected, Totals, Writer, WriterRefusal, Written};
+use chain_lists::{Swap, Total};
 
 impl WriterRefusal {
     /// The number that this refusal is known by.
@@ -31,53 +24,37 @@ impl WriterRefusal {
 }
 
 /// Begins a file in the buffer `out`: labels 1 to `n`, and the set `start`. A buffer that is refused comes back as it was.
-// Two numbers, as in `is_lawful_head`: a struct of both would be made only to be taken apart.
 pub fn begin<'a>(out: &'a mut [u8], n: u8, start: u64) -> Result<Open<'a>, Rejected<'a>>
     ensures cases { MatchResult result
         (λ w. (begin_refusal n start out.old ≡ None)
         × (w.out.now ≡ put_at 0 (head_written n start) out.old)
-        × OpenHolds w (begun n start))
+        × OpenHolds w.out.now w.progress (begun n start))
         (λ e. (begin_refusal n start out.old ≡ Some e.why) × (e.out.now ≡ out.old)) }
+    ensures lender { MatchResult result
+        (λ w. w.out.ghost_name ≡ out.entry.ghost_name)
+        (λ e. e.out.ghost_name ≡ out.entry.ghost_name) }
 {
-    if !is_lawful_head(n, start) {
-        return Err(Rejected {
-            out,
-            why: WriterRefusal::WrongHead,
-        });
+    match put_head(out, n, start) {
+        Ok(progress) => Ok(Writer { out, progress }),
+        Err(why) => Err(Rejected { out, why }),
     }
-    let mut file = Writer {
-        out,
-        at: 0,
-        count: 1,
-        state: Listing { n, present: start },
-    };
-    if !file.has_room(HEAD_SIZE + HELD_BACK) {
-        return Err(Rejected {
-            out: file.out,
-            why: WriterRefusal::ShortBuffer,
-        });
-    }
-    file.put_record(Kind::Head, &head_body(n, start));
-    Ok(file)
 }
 
-// What a writer holds so far is a premise of its calls: docs/DECISIONS.md, "A writer holds its buffer".
 impl<'a, S: Drop> Writer<'a, S> {
     /// Adds the end, and hands the buffer back with the file in it.
-    pub fn end(mut self) -> Written<'a>
-        ensures { (c : ChainList) → Holding self.entry.out.now self.entry.at self.entry.count c
+    pub fn end(self) -> Written<'a>
+        ensures holds { (c : ChainList) → Holding self.entry.out.now self.entry.progress.at self.entry.progress.count c
             → Holds (take result.length result.out.now) c
             × (result.length ≤ length result.out.now)
-            × (result.length ≡ self.entry.at + length (end_written self.entry.count))
-            × (result.out.now ≡ put_at self.entry.at (end_written self.entry.count) self.entry.out.now) }
+            × (result.length ≡ self.entry.progress.at + length (end_written self.entry.progress.count))
+            × (result.out.now ≡ put_at self.entry.progress.at (end_written self.entry.progress.count) self.entry.out.now) }
+        ensures puts { Puts self.entry.progress.at (end_written self.entry.progress.count)
+            self.entry.out.now result.out.now result.length }
+        ensures lender { result.out.ghost_name ≡ self.entry.out.ghost_name }
     {
-        let count = self.count;
-        self.put_record(Kind::End, &count.to_le_bytes());
-        let length = self.at.min(self.out.len());
-        Written {
-            out: self.out,
-            length,
-        }
+        let Writer { out, progress } = self;
+        let length = progress.put_end(out);
+        Written { out, length }
     }
 }
 
@@ -94,45 +71,32 @@ impl<'a> Open<'a> {
     /// Adds an exchange. If it is refused, nothing changes.
     pub fn exchange(&mut self, swap: Swap) -> Result<(), WriterRefusal>
         ensures cases { MatchResult result
-            (λ _. (exchange_refusal self.old swap ≡ None)
-            × (self.new.out.now ≡ put_at self.old.at (swap_written swap) self.old.out.now))
-            (λ e. (exchange_refusal self.old swap ≡ Some e)
+            (λ _. (exchange_refusal self.old.out.now self.old.progress swap ≡ None)
+            × (self.new.out.now ≡ put_at self.old.progress.at (swap_written swap) self.old.out.now))
+            (λ e. (exchange_refusal self.old.out.now self.old.progress swap ≡ Some e)
             × (self.new.out.now ≡ self.old.out.now)
-            × (self.new.at ≡ self.old.at)
-            × (self.new.state.present ≡ self.old.state.present)
-            × (self.new.count ≡ self.old.count)) }
-        ensures labels { self.new.state.n ≡ self.old.state.n }
-        ensures holds { (c : ChainList) → OpenHolds self.old c
-            → MatchResult result (λ _. OpenHolds self.new (with_swap c swap)) (λ _. OpenHolds self.new c) }
+            × (self.new.progress ≡ self.old.progress)) }
+        ensures labels { self.new.progress.state.n ≡ self.old.progress.state.n }
+        ensures holds { (c : ChainList) → OpenHolds self.old.out.now self.old.progress c → MatchResult result
+            (λ _. OpenHolds self.new.out.now self.new.progress (with_swap c swap))
+            (λ _. OpenHolds self.new.out.now self.new.progress c) }
         ensures lender { self.new.out.ghost_name ≡ self.old.out.ghost_name }
     {
-        if !swap.is_lawful(self.state.n, self.state.present) {
-            return Err(WriterRefusal::WrongExchange);
-        }
-        if !self.has_room(SWAP_SIZE + HELD_BACK) {
-            return Err(WriterRefusal::NoRoom);
-        }
-        self.put_record(Kind::Exchange, &[swap.high, swap.low]);
-        self.state.present = swap.after(self.state.present);
-        self.count = self.count.wrapping_add(1);
-        Ok(())
+        self.progress.put_exchange(self.out, swap)
     }
 
     /// Adds the first total; no exchange can follow.
     pub fn total(self, total: Total) -> Totals<'a>
-        ensures { (c : ChainList) → OpenHolds self.entry c
-            → TotalsHolds result (with_total c total)
-            × (result.out.now ≡ put_at self.entry.at (total_written total) self.entry.out.now) }
+        ensures holds { (c : ChainList) → OpenHolds self.entry.out.now self.entry.progress c
+            → TotalsHolds result.out.now result.progress (with_total c total)
+            × (result.out.now ≡ put_at self.entry.progress.at (total_written total) self.entry.out.now) }
+        ensures puts { Puts self.entry.progress.at (total_written total) self.entry.out.now result.out.now result.progress.at }
+        ensures counted { result.progress.count ≡ self.entry.progress.count }
+        ensures lender { result.out.ghost_name ≡ self.entry.out.ghost_name }
     {
-        let Writer { out, at, count, .. } = self;
-        let mut file = Writer {
-            out,
-            at,
-            count,
-            state: TotalKinds::EMPTY.with(total),
-        };
-        file.put_total(total);
-        file
+        let Writer { out, progress } = self;
+        let progress = progress.put_first_total(out, total);
+        Writer { out, progress }
     }
 }
 
@@ -140,23 +104,18 @@ impl<'a> Totals<'a> {
     /// Adds a total of another kind. If it is refused, nothing changes.
     pub fn total(&mut self, total: Total) -> Result<(), WriterRefusal>
         ensures cases { MatchResult result
-            (λ _. (total_refusal self.old total ≡ None))
-            (λ e. (total_refusal self.old total ≡ Some e)
+            (λ _. (total_refusal self.old.progress total ≡ None)
+            × Puts self.old.progress.at (total_written total) self.old.out.now self.new.out.now self.new.progress.at)
+            (λ e. (total_refusal self.old.progress total ≡ Some e)
             × (self.new.out.now ≡ self.old.out.now)
-            × (self.new.at ≡ self.old.at)
-            × (self.new.state ≡ self.old.state)) }
-        ensures counted { self.new.count ≡ self.old.count }
-        ensures holds { (c : ChainList) → TotalsHolds self.old c → MatchResult result
-            (λ _. TotalsHolds self.new (with_total c total)
-            × (self.new.out.now ≡ put_at self.old.at (total_written total) self.old.out.now))
-            (λ _. TotalsHolds self.new c) }
+            × (self.new.progress ≡ self.old.progress)) }
+        ensures counted { self.new.progress.count ≡ self.old.progress.count }
+        ensures holds { (c : ChainList) → TotalsHolds self.old.out.now self.old.progress c → MatchResult result
+            (λ _. TotalsHolds self.new.out.now self.new.progress (with_total c total)
+            × (self.new.out.now ≡ put_at self.old.progress.at (total_written total) self.old.out.now))
+            (λ _. TotalsHolds self.new.out.now self.new.progress c) }
         ensures lender { self.new.out.ghost_name ≡ self.old.out.ghost_name }
     {
-        if self.state.has(total) {
-            return Err(WriterRefusal::SecondTotal);
-        }
-        self.put_total(total);
-        self.state = self.state.with(total);
-        Ok(())
+        self.progress.put_total(self.out, total)
     }
 }
