@@ -6,7 +6,7 @@ use Rattle.chain_lists.specs.declared.Kind.{Kind}
 use Rattle.chain_lists.specs.declared.Kind.TheVariants.{Head, Exchange, End, ShiftTotal, LampTotal}
 use Rattle.chain_lists.specs.declared.Total.TheVariants.{Shift, Lamp}
 use Rattle.chain_lists.specs.Lists.{ChainList, little, framed, kind_length, begun, with_swap, with_total}
-use Rattle.chain_lists.specs.Faults.{Fault, cut_off, Beginning, nothing, so_far, ended, bytes_of, swaps_in, number_in, stated, kind_in, body_in, complete, due, swap_in, body_fault, kind_fault, fault_after}
+use Rattle.chain_lists.specs.Faults.{Fault, cut_off, Beginning, nothing, so_far, ended, number_in, stated, kind_in, body_in, complete, due, swap_in, body_fault, kind_fault, fault_after}
 use Rattle.chain_lists.proofs.Bytes.{stated_framed, kind_framed, body_framed, complete_framed, drop_framed}
 
 -- ---- the beginning with one record more
@@ -27,14 +27,14 @@ next b (Some k) body = next_by b k body
 
 -- ---- reading on after a beginning
 
--- a list, or what is at fault, at which byte and after how many exchanges
+-- a list, or what is at fault after which beginning
 pub data Verdict : Type 0 where
   accept : ChainList → Verdict
-  refuse : Fault → ℕ → ℕ → Verdict
+  refuse : Fault → Beginning → Verdict
 
 -- what is left is at fault, or nothing is left after an end, or the next record is in order and the reading goes on behind it
 pub data Scan : Beginning → List ℕ → Verdict → Type 0 where
-  stops : {b : Beginning} {rest : List ℕ} {f : Fault} → fault_after b rest ≡ Some f → Scan b rest (refuse f (length (bytes_of b)) (swaps_in b))
+  stops : {b : Beginning} {rest : List ℕ} {f : Fault} → fault_after b rest ≡ Some f → Scan b rest (refuse f b)
   ends : {c : ChainList} → Scan (ended c) [] (accept c)
   goes : {b : Beginning} {x : ℕ} {xs : List ℕ} {v : Verdict} → fault_after b (x ∷ xs) ≡ None
       → Scan (next b (kind_in (x ∷ xs)) (body_in (x ∷ xs))) (drop (4 + stated (x ∷ xs)) (x ∷ xs)) v → Scan b (x ∷ xs) v

@@ -11,5 +11,6 @@ pub record LawOfFiles : Type 0 where
   pub one_file : (c d : ChainList) → Lawful c → Lawful d → c.n ≡ d.n → sets_of c ≡ sets_of d → c.totals ≡ d.totals → c ≡ d
   -- a file that holds a list is not refused
   pub not_both : (file : List ℕ) (c : ChainList) (f : Fault) (at : Spot) → Holds file c → Refused file f at → ⊥
-  -- and one that is refused is so for one reason, at one place
-  pub one_refusal : (file : List ℕ) (f g : Fault) (at by : Spot) → Refused file f at → Refused file g by → (f ≡ g) × (at ≡ by)
+  -- and one that is refused is so for one reason, at one place, after one beginning
+  pub one_refusal : (file : List ℕ) (f g : Fault) (at by : Spot) (r : Refused file f at) (q : Refused file g by)
+      → (f ≡ g) × (at ≡ by) × (r.beginning ≡ q.beginning)

@@ -1,7 +1,8 @@
 -- From record to record: what a reader has read grows, or the file is refused where it stands.
-use Rattle.std.proofs.Common.{◌≡◌, ℕ, ◌+◌, Bool, cond, List, [], ◌∷◌, ◌++◌, length, Some, Option, sym, refl, ap, ◌∙◌, ap₂, arith}
+use Rattle.std.proofs.Common.{◌≡◌, ℕ, ◌+◌, ◌==◌, Bool, false, cond, List, [], ◌∷◌, ◌++◌, length, Some, Option, sym, refl, ap, ◌∙◌, ap₂, arith}
 use Rattle.std.proofs.lemmas.List.{append-nil, length-append}
 use Rattle.std.proofs.lemmas.Bool.{eq-eqb}
+use borrow.Author.Tests.{clash}
 use Rattle.chain_lists.specs.declared.Kind.{Kind}
 use Rattle.chain_lists.specs.declared.Spot.{Spot}
 use Rattle.chain_lists.specs.Lists.{framed, kind_length}
@@ -13,7 +14,7 @@ use Rattle.chain_reader.specs.declared.states.Stage.TheVariants.{Nothing, SoFar,
 use Rattle.chain_reader.specs.Reading.{Finished, StageAfter, end_of, order_fault}
 
 -- refused at the end of what was read
-pub refused_here
+abbrev pub refused_here
     : (file : List ℕ) (b : Beginning) (rest : List ℕ) (f : Fault) (at : Spot)
     → LawfulBeginning b → file ≡ bytes_of b ++ rest → at ≡ end_of b → fault_after b rest ≡ Some f → Refused file f at
 refused_here file b rest f at L e p h =
@@ -33,6 +34,13 @@ ended_well file nothing rest L st e z = absurd st
 ended_well file (so_far c) rest L st e z = absurd st
 ended_well file (ended c) rest L st e z =
     record { lawful = L; written = e ∙ ap (λ (ys : List ℕ). bytes_of (ended c) ++ ys) z ∙ append-nil (bytes_of (ended c)) }
+
+-- bytes after the end
+pub more_after_end : (b : Beginning) (rest : List ℕ) → StageAfter b Ended → (length rest == 0) ≡ false → fault_after b rest ≡ Some out_of_order
+more_after_end nothing rest st h = absurd st
+more_after_end (so_far c) rest st h = absurd st
+more_after_end (ended c) [] st h = absurd (clash (sym h))
+more_after_end (ended c) (x ∷ xs) st h = refl
 
 -- before the end
 pub no_end : (b : Beginning) (rest : List ℕ) (s : Stage) → StageAfter b s → (s ≡ Ended → ⊥) → rest ≡ [] → fault_after b rest ≡ Some out_of_order

@@ -34,7 +34,7 @@ impl<'a> ListReader<'a> {
             × (x.record.bytes.now ≡ framed x.record.kind x.record.body.now)
             × (bytes_of (extended b x.entry) ≡ bytes_of b ++ x.record.bytes.now)
             × (x.record.spot ≡ end_of b)))
-            (λ e. Refused (file_read self.old) (fault_of e) (spot_of e) × HasRead self.new b) }
+            (λ e. (r : Refused (file_read self.old) (fault_of e) (spot_of e)) × (r.beginning ≡ b) × HasRead self.new b) }
         ensures shorter { IfOk result (λ o. IfSome o (λ _. length (unread self.new) < length (unread self.old))) }
     {
         if let Stage::Ended = self.stage {

@@ -4,6 +4,7 @@
 mod building;
 mod description;
 mod filing;
+mod passing;
 mod piling;
 mod walking;
 mod words;
@@ -13,30 +14,44 @@ use building::Refusal;
 use description::{Course, MOST_BYTES, Plan, Rig, read_rig};
 use intake::take_from;
 use matroid::Matroid;
+use passing::Outgoing;
 use piling::write_pile;
-use std::io::{BufWriter, Write};
+use std::io;
+use std::io::Write;
 use words::Unread;
 
 /// How many bytes are read: one more than a description can have, so that a longer text shows.
 const ROOM: usize = MOST_BYTES + 1;
 
-/// Writes the list over a plan, or that the plan is refused, which is an error too.
+/// What was written.
+#[derive(Clone, Copy, Debug, PartialEq, Eq)]
+enum Answer {
+    /// The list of the rig, and what else is found of it.
+    Listed,
+    /// Why the plan is refused.
+    Refused,
+}
+
+/// Writes the list over a plan, or that the plan is refused.
 fn write_plan<W: Write, P: Matroid + Drop>(
-    out: &mut W,
+    out: &mut Outgoing<W>,
     plan: Result<P, Refusal>,
     course: Course,
-) -> anyhow::Result<()> {
+) -> io::Result<Answer> {
     match plan {
-        Ok(matroid) => Ok(write_pile(out, matroid, course)?),
+        Ok(matroid) => {
+            write_pile(out, matroid, course)?;
+            Ok(Answer::Listed)
+        }
         Err(refusal) => {
-            writeln!(out, "{refusal}")?;
-            Err(anyhow!("the plan is refused"))
+            out.line(refusal)?;
+            Ok(Answer::Refused)
         }
     }
 }
 
 /// Writes the list of a rig.
-fn write_rig<W: Write>(out: &mut W, rig: Rig) -> anyhow::Result<()> {
+fn write_rig<W: Write>(out: &mut Outgoing<W>, rig: Rig) -> io::Result<Answer> {
     let Rig { plan, course } = rig;
     // A match and no `dyn`: a walk owns its matroid, and its contracts speak of its type.
     match plan {
@@ -55,10 +70,14 @@ fn run(rt: &HostRuntime) -> anyhow::Result<()> {
         println!(rt; "wrong form")?;
     }
     let rig = read?;
-    let mut out = BufWriter::new(rt.alloc(), rt.stdout())?;
-    let written = write_rig(&mut out, rig);
+    let mut out = Outgoing::new(rt.stdout(), rt.alloc());
+    // After an error nothing more is written.
+    let answer = write_rig(&mut out, rig)?;
     out.flush()?;
-    written
+    match answer {
+        Answer::Listed => Ok(()),
+        Answer::Refused => Err(anyhow!("the plan is refused")),
+    }
 }
 
 fn main(rt: HostRuntime) -> anyhow::Result<()> {

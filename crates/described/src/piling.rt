@@ -1,5 +1,6 @@
 //! The layers over a plan, and the tie rule.
 use crate::description::{Course, Layer, Rule};
+use crate::passing::Outgoing;
 use crate::walking::write_walks;
 use layers::{Dual, Minor, Truncation};
 use matroid::Matroid;
@@ -9,7 +10,7 @@ use tie_rule::{Closest, Furthest, Turnabout};
 
 /// Writes the list of a whole pile.
 fn write_whole<W: Write, P: Matroid + Drop>(
-    out: &mut W,
+    out: &mut Outgoing<W>,
     matroid: P,
     course: Course,
 ) -> io::Result<()> {
@@ -24,7 +25,7 @@ fn write_whole<W: Write, P: Matroid + Drop>(
 /// Writes the list of the pile that the upper layer makes of this matroid.
 // Not one with `write_pile`: over the lower layer comes `write_upper`, over the upper one the walk, and a closure takes one type only.
 fn write_upper<W: Write, P: Matroid + Drop>(
-    out: &mut W,
+    out: &mut Outgoing<W>,
     matroid: P,
     upper: Option<Layer>,
     course: Course,
@@ -44,7 +45,7 @@ fn write_upper<W: Write, P: Matroid + Drop>(
 
 /// Writes the list of the pile that both layers make of this matroid.
 pub fn write_pile<W: Write, P: Matroid + Drop>(
-    out: &mut W,
+    out: &mut Outgoing<W>,
     matroid: P,
     course: Course,
 ) -> io::Result<()> {

@@ -1,4 +1,4 @@
-use Rattle.std.proofs.Common.{◌≡◌, ℕ, List, ◌++◌, length, sym, ap, ◌∙◌, subst, arith}
+use Rattle.std.proofs.Common.{◌≡◌, ℕ, List, ◌++◌, length, refl, sym, ap, ◌∙◌, subst, arith}
 use Rattle.std.proofs.lemmas.List.{append_assoc, length-append}
 use Rattle.std.proofs.lemmas.Result.{err_from_is_err_and}
 use Rattle.std.proofs.lemmas.Option.{MatchOption-at_some, MatchOption-at_none}
@@ -11,7 +11,7 @@ use Rattle.chain_lists.proofs.Results.{ok_or_told}
 use Rattle.chain_records.proofs.Frames.{nothing_left}
 use Rattle.chain_reader.specs.declared.values.ListFault.TheVariants.{OutOfOrder}
 use Rattle.chain_reader.specs.Reading.{Known, StageAfter, end_of, entry_written, extended}
-use Rattle.chain_reader.proofs.Runs.{no_end, refused_here, ended_well, fault_next, framed_fault, framed_some, goes_behind}
+use Rattle.chain_reader.proofs.Runs.{more_after_end, no_end, refused_here, ended_well, fault_next, framed_fault, framed_some, goes_behind}
 use Rattle.chain_reader.proofs.states.ListReader.next.Goals as goal
 
 pub returns-then-is_empty-clause-reads : goal.returns-then-is_empty-clause-reads
@@ -22,13 +22,22 @@ returns-then-is_empty-clause-reads c =
       h,
     )
 
+pub returns-else-is_empty-clause-reads : goal.returns-else-is_empty-clause-reads
+returns-else-is_empty-clause-reads c =
+    λ b h. (
+      refused_here _ b _ _ _ h.lawful h.made (c.spot.ensures ∙ h.place)
+          (more_after_end b _ (subst (StageAfter b) c.in-Ended.is h.stage) (sym c.is_empty.ensures ∙ c.if-is_empty.false)),
+      refl,
+      h,
+    )
+
 pub returns-in_err-next-clause-reads : goal.returns-in_err-next-clause-reads
 returns-in_err-next-clause-reads c =
     let p = err_from_is_err_and c.from_residual.result c.from_residual.ensures.1 in
     let k = c.in_err-next.ensures.cases in
     λ b h.
     rw (p.1, p.2)
-    (refused_here _ b _ _ _ h.lawful h.made (k.0 ∙ h.place) (fault_next b _ _ h.stage c.in_default.not-Ended k.1 ∙ k.2 b), h)
+    (refused_here _ b _ _ _ h.lawful h.made (k.0 ∙ h.place) (fault_next b _ _ h.stage c.in_default.not-Ended k.1 ∙ k.2 b), refl {a = b}, h)
 
 pub returns-in_err-record-clause-reads : goal.returns-in_err-record-clause-reads
 returns-in_err-record-clause-reads c =
@@ -38,7 +47,7 @@ returns-in_err-record-clause-reads c =
     let none = MatchOption-at_none _ _ a.ok_part c.in_ok-next.ensures.cases in
     λ b h.
     rw (p.1, p.2, is)
-    (refused_here _ b _ _ _ h.lawful h.made (c.spot-2.ensures ∙ none.1 ∙ h.place) (no_end b _ _ h.stage c.in_default.not-Ended none.0), h)
+    (refused_here _ b _ _ _ h.lawful h.made (c.spot-2.ensures ∙ none.1 ∙ h.place) (no_end b _ _ h.stage c.in_default.not-Ended none.0), refl {a = b}, h)
 
 pub returns-in_err-step-clause-reads : goal.returns-in_err-step-clause-reads
 returns-in_err-step-clause-reads c =
@@ -52,7 +61,7 @@ returns-in_err-step-clause-reads c =
     let rest : left_of c.args.self.now.records ≡ framed x.kind x.body.now ++ left_of c.next.new.self =
     k.4 ∙ ap (λ (ys : List ℕ). ys ++ left_of c.next.new.self) k.2 in
     let fault = fault_next b _ _ h.stage c.in_default.not-Ended (framed_some _ _ _ _ rest) ∙ framed_fault b x.kind x.body.now _ _ k.3 rest ∙ judged.0 in
-    rw (p.1, p.2) (refused_here _ b _ _ _ h.lawful h.made (judged.1 ∙ at) fault, h)
+    rw (p.1, p.2) (refused_here _ b _ _ _ h.lawful h.made (judged.1 ∙ at) fault, refl {a = b}, h)
 
 pub returns-clause-reads : goal.returns-clause-reads
 returns-clause-reads c =
