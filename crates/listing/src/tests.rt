@@ -104,28 +104,85 @@ impl Watch for Told {
     }
 }
 
-/// The answer to a text, with all that is written of it.
-fn answer<'a>(
-    text: &[u8],
-    buffer: &'a mut [u8; MOST_INPUT],
-    out: &mut Short,
-) -> Result<Answer, Failure> {
+/// A writer that only counts what it takes.
+#[derive(Drop)]
+struct Counting(u64);
+
+impl Write for Counting {
+    fn write(&mut self, buf: &[u8]) -> io::Result<usize> {
+        self.0 = self.0.wrapping_add(buf.len() as u64);
+        Ok(buf.len())
+    }
+
+    fn flush(&mut self) -> io::Result<()> {
+        Ok(())
+    }
+}
+
+/// Lists the triangle on a writer that takes so many bytes.
+fn listed_on(out: &mut Short) -> Result<Answer, Failure> {
     let mut input = Slow {
-        rest: text,
+        rest: TRIANGLE,
         ready: false,
     };
-    list_survey(&mut input, buffer, out, &mut Unwatched)
+    list_survey(&mut input, &mut [0; MOST_INPUT], out, &mut Unwatched)
 }
 
 #[test]
 fn fails_at_each_byte(rt: HostRuntime) {
-    let mut buffer = [0; MOST_INPUT];
     for most in 0..=WANTED.len() {
         let mut out = Short::new(most);
-        let answer = answer(TRIANGLE, &mut buffer, &mut out);
+        let answer = listed_on(&mut out);
         let is_whole = most == WANTED.len();
         assert_eq!(rt; matches!(answer, Ok(Answer::Listed)), is_whole);
         assert_eq!(rt; matches!(answer, Err(Failure::Writing(_))), !is_whole);
         assert!(rt; out.held[..out.used.min(64)] == WANTED[..most.min(WANTED.len())]);
     }
+}
+
+#[test]
+fn a_refusal_and_its_input(rt: HostRuntime) {
+    let text = b"3\n1,2,0,0\n2,3,-0,0\n";
+    let mut buffer = [b'-'; MOST_INPUT];
+    let mut out = Short::new(64);
+    let mut input: &[u8] = text;
+    let answer = list_survey(&mut input, &mut buffer, &mut out, &mut Unwatched);
+    let Ok(Answer::Refused { why, length }) = answer else {
+        panic!(rt; "not refused");
+    };
+    assert_eq!(rt; (why.fault.number(), why.row, length), (1, 3, text.len()));
+    assert!(rt; buffer.get(..length) == Some(text.as_slice()));
+    assert!(rt; out.held[..16] == b"refused 1 row 3\n"[..]);
+}
+
+#[test]
+fn no_more_than_is_read(rt: HostRuntime) {
+    let text = [b'1'; MOST_INPUT + 1];
+    let mut input: &[u8] = &text;
+    let mut out = Short::new(64);
+    let answer = list_survey(&mut input, &mut [0; MOST_INPUT], &mut out, &mut Unwatched);
+    assert!(rt;
+        matches!(
+            answer,
+            Ok(Answer::Refused {
+                length: MOST_INPUT,
+                ..
+            })
+        )
+    );
+    assert_eq!(rt; input.len(), 1);
+}
+
+#[test]
+fn is_told_how_it_goes_on(rt: HostRuntime) {
+    let mut input: &[u8] =
+        b"6\n1,2,0,0\n1,3,0,0\n2,3,0,0\n1,4,0,0\n2,4,0,0\n3,4,0,0\n1,5,0,0\n2,5,0,0\n3,5,0,0\n4,5,0,0\n1,6,0,0\n2,6,0,0\n3,6,0,0\n4,6,0,0\n5,6,0,0\n";
+    let mut out = Counting(0);
+    let mut told = Told::new();
+    let answer = list_survey(&mut input, &mut [0; MOST_INPUT], &mut out, &mut told);
+    assert!(rt; matches!(answer, Ok(Answer::Listed)));
+    assert_eq!(rt; (told.points, told.labels), (6, 15));
+    // The number of trees on six points is 6^4, and their lines take more than two pages.
+    assert_eq!(rt; told.chains, 1296);
+    assert_eq!(rt; (told.pages, out.0), (3, 20940));
 }

@@ -24,8 +24,5 @@ pub fn walk_of(text: &[u8]) -> Result<(Survey, SurveyWalk), Refusal>
     // A lawful survey's graph and shifts are never refused; `?` would add a way to fail.
     let graphic = graphic_of(&survey).unwrap();
     let shifts = shifts_of(&survey).unwrap();
-    Ok((
-        survey,
-        Walk::begin(graphic, Closest, shifts, 0, u64::MAX),
-    ))
+    Ok((survey, Walk::begin(graphic, Closest, shifts, 0, u64::MAX)))
 }
