@@ -209,3 +209,6 @@ impl Swap {
         swapped(present, self.high, self.low)
     }
 }
+
+#[cfg(test)]
+mod tests;

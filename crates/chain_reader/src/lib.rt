@@ -6,6 +6,8 @@ mod judging;
 mod reading;
 mod states;
 mod summing;
+#[cfg(test)]
+mod tests;
 mod values;
 
 pub use states::ListReader;
