@@ -4,6 +4,8 @@ ghost use Rattle.std.specs.Prelude.{◌≡◌, ◌≤◌, length as length_of};
 use chain_lists::TotalKinds;
 
 /// How far a file is written, in the state `S`. The buffer that it stands in is passed to each call.
+// Beside `Writer`: the check follows no lent slice into a `Result` or a further struct, so a caller that has to know what its
+// buffer holds keeps the buffer.
 #[derive(Drop)]
 pub struct Progress<S> {
     pub(crate) at: usize,
