@@ -33,6 +33,7 @@ fn shift_totals(rt: HostRuntime) -> Result<(), Fail> {
         for (across, along) in [
             (least, before.wrapping_neg()),
             (least.wrapping_neg(), before),
+            (before, least),
         ] {
             let text = format!(in rt.alloc(); "shift total {across} {along}")?;
             assert!(rt; is_shown(rt.alloc(), Total::Shift(across, along), text.as_str())?);
