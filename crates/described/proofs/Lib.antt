@@ -1,2 +1,4 @@
 mod Passed
 mod Onward
+mod Filling
+mod Hex

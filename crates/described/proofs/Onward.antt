@@ -9,6 +9,13 @@ use Rattle.walk_laws.specs.Steps.{State, Several, go_on, in_front, several, step
 use Rattle.described.specs.Texts.{exchange_lines, exchange_text, onward_text, stop_text}
 use Rattle.described.proofs.Passed.{goes_on, goes_last, stops_in}
 
+-- an advance in other words: of another walk with the same setting, by an answer that is known
+pub stepped : {R V : Type 0} {v w : Setting R V} {o p : Option Exchange} (s t : State R V) → v ≡ w → o ≡ p
+    → ◌≡◌ {A = Option Exchange × State R V} (step v s) (o, t) → ◌≡◌ {A = Option Exchange × State R V} (step w s) (p, t)
+stepped {R} {V} {w = w} {o = o} s t same is q =
+    subst (λ (x : Option Exchange). ◌≡◌ {A = Option Exchange × State R V} (step w s) (x, t)) is
+    (subst (λ (u : Setting R V). ◌≡◌ {A = Option Exchange × State R V} (step u s) (o, t)) same q)
+
 module _ {R V : Type 0} (w : Setting R V) where
   -- of no advance
   pub onward_none : (s : State R V) → onward_text w 0 s ≡ stop_text Full ++ codes "\n"
@@ -36,12 +43,17 @@ module _ {R V : Type 0} (w : Setting R V) where
       ∙ ap (λ (n : ℕ). ((exchange_text n (x, t.present) ++ codes "\n") ++ exchange_lines (n + 1) r.0) ++ (stop_text r.1 ++ codes "\n")) (sym more)
       ∙ append_assoc (exchange_text t.count (x, t.present) ++ codes "\n") (exchange_lines (t.count + 1) r.0) (stop_text r.1 ++ codes "\n")
 
+  -- ---- what k advances leave
+
+  pub turn_leaves : (k j : ℕ) (s t : State R V) (x : Exchange) → k ≡ suc j → step w s ≡ (Some x, t) → (several w k s).2 ≡ (several w j t).2
+  turn_leaves k j s t x one q = ap (λ (i : ℕ). (several w i s).2) one ∙ ap (λ (r : Several w). r.2) (several_goes j s t x q)
+
+  pub end_leaves : (k j : ℕ) (s t : State R V) → k ≡ suc j → step w s ≡ (None, t) → (several w k s).2 ≡ t
+  end_leaves k j s t one q = ap (λ (i : ℕ). (several w i s).2) one ∙ ap (λ (r : Several w). r.2) (several_stops j s t q)
+
   -- ---- an advance, where the lines of k are still to come
   module _ {a b : Option (List ℕ)} {all : List ℕ} (k j : ℕ) (s t : State R V) (held : List ℕ) (one : k ≡ suc j) (h : Holding a b (held ++ onward_text w k s) all) where
-    -- it answers an exchange: what the advances after it leave, and their lines
-    pub turn_leaves : (x : Exchange) → step w s ≡ (Some x, t) → (several w k s).2 ≡ (several w j t).2
-    turn_leaves x q = ap (λ (i : ℕ). (several w i s).2) one ∙ ap (λ (r : Several w). r.2) (several_goes j s t x q)
-
+    -- it answers an exchange, and lines are still to come
     turn_held : (x : Exchange) → step w s ≡ (Some x, t) → t.count ≡ s.count + 1
         → Holding a b (held ++ ((exchange_text t.count (x, t.present) ++ codes "\n") ++ onward_text w j t)) all
     turn_held x q more = subst (λ (l : List ℕ). Holding a b (held ++ l) all) (ap (λ (i : ℕ). onward_text w i s) one ∙ onward_goes j s t x q more) h
@@ -59,9 +71,6 @@ module _ {R V : Type 0} (w : Setting R V) where
         → Passes b c r after (held ++ (stop_text Finished ++ codes "\n")) → Passes a c r after all
     turn_ends c after r q l =
         goes_last c held _ after r (subst (λ (l : List ℕ). Holding a b (held ++ l) all) (ap (λ (i : ℕ). onward_text w i s) one ∙ onward_stops j s t q) h) l
-
-    pub end_leaves : step w s ≡ (None, t) → (several w k s).2 ≡ t
-    end_leaves q = ap (λ (i : ℕ). (several w i s).2) one ∙ ap (λ (r : Several w). r.2) (several_stops j s t q)
 
   -- no advance is still to come
   pub last_line : {E : Type 0} {a b : Option (List ℕ)} {all : List ℕ} (c : Option (List ℕ)) (k : ℕ) (s : State R V) (held after : List ℕ) (r : Result (Unit {0}) E)

@@ -1,5 +1,5 @@
 -- Texts that are passed on, one behind the other.
-use Rattle.std.proofs.Common.{◌≡◌, ℕ, ◌+◌, ◌<◌, List, ◌++◌, codes, length, Option, Some, None, IfSome, Result, Ok, Err, OnOk, ap, sym, ◌∙◌, subst, arith, append_assoc, length-append}
+use Rattle.std.proofs.Common.{◌≡◌, ℕ, ◌<◌, List, ◌++◌, codes, length, Option, Some, None, IfSome, Result, Ok, Err, OnOk, ap, sym, ◌∙◌, subst, arith, append_assoc, length-append}
 use Rattle.outlet.specs.Sending.{Broken, Holding, Passes}
 use Rattle.outlet.proofs.Pieces.{breaks_here, breaks_longer, breaks_off, holding_all, holding_on}
 

@@ -1,5 +1,5 @@
 -- What is printed of a walk.
-use Rattle.std.specs.Prelude.{ℕ, suc, ◌+◌, List, [], ◌∷◌, ◌++◌, codes, decimal}
+use Rattle.std.specs.Prelude.{ℕ, ◌+◌, List, [], ◌∷◌, ◌++◌, codes, decimal}
 use Rattle.walk_laws.specs.declared.Exchange.{Exchange}
 use Rattle.walk_laws.specs.declared.Stop.{Stop}
 use Rattle.walk_laws.specs.declared.Stop.TheVariants.{Full, Finished}

@@ -1,15 +1,12 @@
-use Rattle.std.proofs.Common.{◌≡◌, ℕ, suc, ◌+◌, ◌-◌, ◌<◌, ◌++◌, codes, string_bytes, Some, None, Option, refl, subst, sym, ◌∙◌, arith}
+use Rattle.std.proofs.Common.{◌≡◌, suc, ◌-◌, ◌++◌, codes, string_bytes, refl, subst, sym, ◌∙◌, arith}
 use Rattle.std.proofs.lemmas.Result.{err_from_is_err_and}
 use Rattle.outlet.specs.Sending.{Broken, Holding}
 use Rattle.outlet.proofs.Pieces.{holding_all}
 use Rattle.walk.specs.States.{setting, setting_of, state_of}
-use Rattle.walk_laws.specs.declared.Exchange.{Exchange}
 use Rattle.walk_laws.specs.declared.View.{View}
-use Rattle.walk_laws.specs.Settings.{Setting}
-use Rattle.walk_laws.specs.Steps.{State, step}
 use Rattle.described.specs.Texts.{exchange_text, onward_text, set_text}
 use Rattle.described.proofs.Passed.{goes_on, stops_in, when_ok}
-use Rattle.described.proofs.Onward.{end_leaves, last_leaves, last_line, turn_breaks, turn_ends, turn_goes, turn_leaves}
+use Rattle.described.proofs.Onward.{stepped, end_leaves, last_leaves, last_line, turn_breaks, turn_ends, turn_goes, turn_leaves}
 use Rattle.described.proofs.walking.write_sets.Goals as goal
 
 pub returns-in_err-line-clause-lines : goal.returns-in_err-line-clause-lines
@@ -42,8 +39,7 @@ returns-in_default-clause-lines g c =
     let same : setting_of g.P.Matroid g.R.TieRule g.M.Measure c.loop.walk ≡ w = λ i. setting g.P.Matroid g.R.TieRule g.M.Measure (inv.0.matroid i) (inv.0.measure i) in
     let s = state_of c.loop.walk in
     let t = state_of c.advance.new.self in
-    let q = subst (λ (v : Setting g.row.R.Denot g.row.M-Value.Denot). ◌≡◌ {A = Option Exchange × State g.row.R.Denot g.row.M-Value.Denot} (step v s) (None, t)) same
-    (subst (λ (x : Option Exchange). ◌≡◌ {A = Option Exchange × State g.row.R.Denot g.row.M-Value.Denot} (step (setting_of g.P.Matroid g.R.TieRule g.M.Measure c.loop.walk) s) (x, t)) c.in_default.is c.advance.ensures.step) in
+    let q = stepped s t same c.in_default.is c.advance.ensures.step in
     let one : inv.1 ≡ suc (inv.1 - 1) = omega (arith, inv.2, c.loop-test.true) in
     turn_ends w inv.1 (inv.1 - 1) s t (string_bytes c.loop.out.held) one inv.4 (g.W.Write.contents c.line-in_default.new.self.writer) (string_bytes c.line-in_default.new.self.held) c.line-in_default.result q c.line-in_default.ensures
 
@@ -54,10 +50,9 @@ returns-in_default-clause-after g c =
     let same : setting_of g.P.Matroid g.R.TieRule g.M.Measure c.loop.walk ≡ w = λ i. setting g.P.Matroid g.R.TieRule g.M.Measure (inv.0.matroid i) (inv.0.measure i) in
     let s = state_of c.loop.walk in
     let t = state_of c.advance.new.self in
-    let q = subst (λ (v : Setting g.row.R.Denot g.row.M-Value.Denot). ◌≡◌ {A = Option Exchange × State g.row.R.Denot g.row.M-Value.Denot} (step v s) (None, t)) same
-    (subst (λ (x : Option Exchange). ◌≡◌ {A = Option Exchange × State g.row.R.Denot g.row.M-Value.Denot} (step (setting_of g.P.Matroid g.R.TieRule g.M.Measure c.loop.walk) s) (x, t)) c.in_default.is c.advance.ensures.step) in
+    let q = stepped s t same c.in_default.is c.advance.ensures.step in
     let one : inv.1 ≡ suc (inv.1 - 1) = omega (arith, inv.2, c.loop-test.true) in
-    when_ok c.line-in_default.result (sym (inv.3 ∙ end_leaves w inv.1 (inv.1 - 1) s t (string_bytes c.loop.out.held) one inv.4 q))
+    when_ok c.line-in_default.result (sym (inv.3 ∙ end_leaves w inv.1 (inv.1 - 1) s t one q))
 
 pub returns-in_err-line-2-clause-lines : goal.returns-in_err-line-2-clause-lines
 returns-in_err-line-2-clause-lines g c =
@@ -67,8 +62,7 @@ returns-in_err-line-2-clause-lines g c =
     let s = state_of c.loop.walk in
     let t = state_of c.advance.new.self in
     let x = c.in-Some.x in
-    let q = subst (λ (v : Setting g.row.R.Denot g.row.M-Value.Denot). ◌≡◌ {A = Option Exchange × State g.row.R.Denot g.row.M-Value.Denot} (step v s) (Some x, t)) same
-    (subst (λ (o : Option Exchange). ◌≡◌ {A = Option Exchange × State g.row.R.Denot g.row.M-Value.Denot} (step (setting_of g.P.Matroid g.R.TieRule g.M.Measure c.loop.walk) s) (o, t)) c.in-Some.is c.advance.ensures.step) in
+    let q = stepped s t same c.in-Some.is c.advance.ensures.step in
     let one : inv.1 ≡ suc (inv.1 - 1) = omega (arith, inv.2, c.loop-test.true) in
     let held = string_bytes c.loop.out.held in
     let p = err_from_is_err_and c.from_residual-in_err-line-2.result c.from_residual-in_err-line-2.ensures.1 in
@@ -83,15 +77,14 @@ loop-preserved g c =
     let s = state_of c.loop.walk in
     let t = state_of c.advance.new.self in
     let x = c.in-Some.x in
-    let q = subst (λ (v : Setting g.row.R.Denot g.row.M-Value.Denot). ◌≡◌ {A = Option Exchange × State g.row.R.Denot g.row.M-Value.Denot} (step v s) (Some x, t)) same
-    (subst (λ (o : Option Exchange). ◌≡◌ {A = Option Exchange × State g.row.R.Denot g.row.M-Value.Denot} (step (setting_of g.P.Matroid g.R.TieRule g.M.Measure c.loop.walk) s) (o, t)) c.in-Some.is c.advance.ensures.step) in
+    let q = stepped s t same c.in-Some.is c.advance.ensures.step in
     let one : inv.1 ≡ suc (inv.1 - 1) = omega (arith, inv.2, c.loop-test.true) in
     let held = string_bytes c.loop.out.held in
     let after = string_bytes c.line-in-loop.new.self.held in (
       record { matroid = c.advance.ensures.keeps.matroid ∙ inv.0.matroid; measure = c.advance.ensures.keeps.measure ∙ inv.0.measure },
       inv.1 - 1,
       omega (arith, one, inv.2),
-      inv.3 ∙ turn_leaves w inv.1 (inv.1 - 1) s t held one inv.4 x q,
+      inv.3 ∙ turn_leaves w inv.1 (inv.1 - 1) s t x one q,
       turn_goes w inv.1 (inv.1 - 1) s t held one inv.4 x after q c.in-Some.ensures.cases
           (subst (λ (v : View g.row.M-Value.Denot). Holding (g.W.Write.contents c.loop.out.writer) (g.W.Write.contents c.line-in-loop.new.self.writer) after (held ++ (exchange_text v.count (x, v.present) ++ codes "\n"))) c.look-view.ensures c.in_ok-line-2.ensures),
     )
