@@ -10,7 +10,7 @@ use Rattle.chain_lists.specs.declared.TotalKinds.{TotalKinds}
 use Rattle.chain_lists.specs.Lists.{ChainList, Holds, begun, lawful_swap, stands, swap_written, with_swap, with_total}
 use Rattle.chain_lists.proofs.Growth.{length_swap_written}
 use Rattle.chain_writer.specs.declared.states.Listing.{Listing}
-use Rattle.chain_writer.specs.declared.states.Writer.{Writer}
+use Rattle.chain_writer.specs.declared.states.Progress.{Progress}
 use Rattle.chain_writer.specs.declared.states.WriterRefusal.{WriterRefusal}
 use Rattle.chain_writer.specs.declared.states.WriterRefusal.TheVariants.{NoRoom, WrongExchange, SecondTotal}
 use Rattle.chain_writer.specs.Writing.{OpenHolds, TotalsHolds, begin_refusal, exchange_refusal, held_back, put_at, swap_size, total_refusal}
@@ -22,16 +22,16 @@ use Rattle.walk_laws.specs.Steps.{State, Several, several, step}
 use Rattle.described.specs.Files.{filled, head_refusal, outcome, swap_of, swap_refusal, swaps_of, totalled, unless}
 use Rattle.described.proofs.Onward.{several_goes, several_stops}
 
--- what a writer that holds c refuses
-pub same_refusal : {w : Writer Listing} {c : ChainList} (x : Swap) (room : ℕ) → OpenHolds w c → length w.out.now ≡ room → exchange_refusal w x ≡ swap_refusal room c x
+-- what is refused of a file that holds c
+pub same_refusal : {out : List ℕ} {p : Progress Listing} {c : ChainList} (x : Swap) (room : ℕ) → OpenHolds out p c → length out ≡ room → exchange_refusal out p x ≡ swap_refusal room c x
 same_refusal x room h long i =
     cond (lawful_swap (h.labels i) (h.set i) x) (cond (nat_le (h.holding.place i + (swap_size + held_back [])) (long i)) None (Some NoRoom)) (Some WrongExchange)
 
 -- an exchange keeps the buffer's length
-pub length_kept : {w : Writer Listing} {c : ChainList} (x : Swap) (out : List ℕ) → OpenHolds w c → out ≡ put_at w.at (swap_written x) w.out.now → length out ≡ length w.out.now
-length_kept {w = w} x out h e =
+pub length_kept : {out : List ℕ} {p : Progress Listing} {c : ChainList} (x : Swap) (after : List ℕ) → OpenHolds out p c → after ≡ put_at p.at (swap_written x) out → length after ≡ length out
+length_kept {out = out} {p = p} x after h e =
     ap length e
-    ∙ length_put w.at (swap_written x) w.out.now (omega (arith, h.holding.room, ap held_back h.no_totals, length_swap_written x))
+    ∙ length_put p.at (swap_written x) out (omega (arith, h.holding.room, ap held_back h.no_totals, length_swap_written x))
 
 module _ {R V : Type 0} (w : Setting R V) (room : ℕ) (c : ChainList) (k : ℕ) (s : State R V) where
   module _ (j : ℕ) (t : State R V) (one : k ≡ suc j) where
@@ -65,10 +65,10 @@ pub head_fits : (n start : ℕ) (out : List ℕ) → begin_refusal n start out �
 head_fits n start out e = grind (arith, nat_tests)
 
 -- a total of lamps is not refused where there is none yet
-pub lamps_taken : {w : Writer TotalKinds} {d : ChainList} (across along : ℤ) (lamps : ℕ) (e : WriterRefusal)
-    → d.totals ≡ [] → TotalsHolds w (with_total d (Shift across along)) → total_refusal w (Lamp lamps) ≡ Some e → ⊥
-lamps_taken {w = w} {d = d} across along lamps e none h refused =
-    let mark : w.state.lamp ≡ false = h.marked.lamp ∙ ap (λ (ts : List Total). stands LampTotal (ts ++ Shift across along ∷ [])) none in
+pub lamps_taken : {out : List ℕ} {p : Progress TotalKinds} {d : ChainList} (across along : ℤ) (lamps : ℕ) (e : WriterRefusal)
+    → d.totals ≡ [] → TotalsHolds out p (with_total d (Shift across along)) → total_refusal p (Lamp lamps) ≡ Some e → ⊥
+lamps_taken {p = p} {d = d} across along lamps e none h refused =
+    let mark : p.state.lamp ≡ false = h.marked.lamp ∙ ap (λ (ts : List Total). stands LampTotal (ts ++ Shift across along ∷ [])) none in
     none-some e (sym (ap (λ (m : Bool). cond m (Some SecondTotal) None) mark) ∙ refused)
 
 -- what is not refused is taken

@@ -14,5 +14,5 @@ invariant-loop-before g l =
     Keeps l.fn.walk l.walk
     × (k : ℕ) × (l.before + k ≡ l.steps)
     × ((several w l.steps (state_of l.fn.walk)).2 ≡ (several w k (state_of l.walk)).2)
-    × ((n start : ℕ) → OpenHolds l.fn.file (begun n start) → (c : ChainList) × OpenHolds l.file c × (length c.swaps ≡ l.before) × (length l.file.out.now ≡ room)
+    × ((n start : ℕ) → OpenHolds l.fn.file.out.now l.fn.file.progress (begun n start) → (c : ChainList) × OpenHolds l.file.out.now l.file.progress c × (length c.swaps ≡ l.before) × (length l.file.out.now ≡ room)
     × (filled room (begun n start) (swaps_of (several w l.steps (state_of l.fn.walk)).0) ≡ filled room c (swaps_of (several w k (state_of l.walk)).0)))

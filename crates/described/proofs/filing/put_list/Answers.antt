@@ -20,10 +20,10 @@ returns g c =
     let a = c.in_ok-add_exchanges.ensures.adds n first b.2 in
     let room : length c.in_ok-file.file.out.now ≡ length c.args.buffer.now =
     ap length b.1 ∙ length_put 0 (head_written n first) c.args.buffer.now (omega (arith, head_fits n first c.args.buffer.now b.0, length_head_written n first)) in
-    let t = c.total-totals.ensures a.0 a.2 in
+    let t = c.total-totals.ensures.holds a.0 a.2 in
     let p = is_taken _ c.total.result (λ e x. lamps_taken _ _ c.args.lamps e a.2.no_totals t.0 x.0) c.total.ensures.cases in
     let l = rw p.1 at (c.total.ensures.holds _ t.0) in
-    let f = c.end.ensures _ l.0.holding in (
+    let f = c.end.ensures.holds _ l.0.holding in (
       a.0,
       outcome_is n (swaps_of (several (setting_of _ _ _ c.args.walk.now) c.args.steps (state_of c.args.walk.now)).0) room (ap (λ (v : View Shift). v.present) c.look.ensures) b.0 a.1,
       holds_totals a.0 c.args.lamps (to_z-of_z w64 total.across (record { sfits = total.wide })) (to_z-of_z w64 total.along (record { sfits = total.long }))
