@@ -12,7 +12,7 @@ loop-part-preserved c =
       extended i.0 x.entry,
       k.0,
       c.in-Ok-Some.ensures.file ∙ i.2,
-      goes_on i.0 x.entry x.record.bytes.now x.record.spot (string_bytes c.loop-part.text) (string_bytes c.put_record.new.text) k.1 k.2 k.3 k.4 i.3 c.in_ok-put_record-in-Ok-Some.ensures,
+      goes_on i.0 x.entry x.record.bytes.now x.record.spot (string_bytes c.loop-part.text) (string_bytes c.put_record.new.text) k.1 k.2 k.4 k.5 i.3 c.in_ok-put_record-in-Ok-Some.ensures,
     )
 
 pub returns-in-Err : goal.returns-in-Err
