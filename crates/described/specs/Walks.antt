@@ -1,10 +1,9 @@
 -- All that is printed of a matroid, an offered and an opened set.
-use Rattle.std.specs.Prelude.{◌≡◌, ℕ, List, ◌++◌, codes, decimal}
+use Rattle.std.specs.Prelude.{ℕ, List, ◌++◌, codes, decimal}
 use Rattle.std.specs.Fmt.{signed_decimal}
 use Rattle.measure.specs.declared.value.Shift.{Shift}
-use Rattle.measure.specs.declared.value.Word.{Word}
 use Rattle.walk_laws.specs.Settings.{Setting}
-use Rattle.walk_laws.specs.Steps.{State, begun, several}
+use Rattle.walk_laws.specs.Steps.{State, several}
 use Rattle.described.specs.Files.{file_text, outcome, swaps_of}
 use Rattle.described.specs.Texts.{list_text}
 
