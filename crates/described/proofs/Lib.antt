@@ -2,3 +2,4 @@ mod Passed
 mod Onward
 mod Filling
 mod Hex
+mod Whole

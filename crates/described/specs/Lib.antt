@@ -1,3 +1,4 @@
 pub mod Held
 pub mod Texts
 pub mod Files
+pub mod Walks
