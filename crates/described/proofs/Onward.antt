@@ -7,7 +7,7 @@ use Rattle.walk_laws.specs.declared.Stop.TheVariants.{Full, Finished}
 use Rattle.walk_laws.specs.Settings.{Setting}
 use Rattle.walk_laws.specs.Steps.{State, Several, go_on, in_front, several, step}
 use Rattle.described.specs.Texts.{exchange_lines, exchange_text, onward_text, stop_text}
-use Rattle.described.proofs.Passed.{goes_on, goes_last, stops_in}
+use Rattle.outlet.proofs.Pieces.{goes_on, goes_last, stops_in}
 
 -- an advance in other words: of another walk with the same setting, by an answer that is known
 pub stepped : {R V : Type 0} {v w : Setting R V} {o p : Option Exchange} (s t : State R V) → v ≡ w → o ≡ p

@@ -1,7 +1,7 @@
 -- The lines of a matroid, part by part.
 use Rattle.std.proofs.Common.{◌≡◌, ℕ, List, ◌++◌, codes, Option, Result, subst, sym, ◌∙◌}
 use Rattle.outlet.specs.Sending.{Broken, Holding, Passes}
-use Rattle.outlet.proofs.Pieces.{holding_all}
+use Rattle.outlet.proofs.Pieces.{holding_all, goes_on, goes_last, stops_in}
 use Rattle.matroid.specs.declared.interface.Matroid.{Ghosts as MatroidOf}
 use Rattle.tie_rule.specs.declared.rule.TieRule.{Ghosts as TieRuleOf}
 use Rattle.measure.specs.declared.interface.Measure.{Ghosts as MeasureOf}
@@ -13,7 +13,7 @@ use Rattle.walk_laws.specs.Steps.{State, begun, several}
 use Rattle.described.specs.Files.{file_text, outcome, swaps_of}
 use Rattle.described.specs.Texts.{list_text}
 use Rattle.described.specs.Walks.{rank_text, total_text, whole_text}
-use Rattle.described.proofs.Passed.{goes_on, goes_last, stops_in}
+
 
 -- what is told of a walk that begins, by what it was made of
 pub by_parts : {P R M V X : Type 0} {matroids : MatroidOf P} {rules : TieRuleOf R} {measures : MeasureOf M V} (F : Setting R V → State R V → X)

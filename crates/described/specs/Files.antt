@@ -11,6 +11,10 @@ use Rattle.chain_writer.specs.Writing.{head_size, held_back, refusal_number, swa
 use Rattle.measure.specs.declared.value.Shift.{Shift}
 use Rattle.walk_laws.specs.declared.Exchange.{Exchange}
 
+-- how many bytes a file has room in
+abbrev pub file_room : ℕ
+file_room = 1024
+
 abbrev pub swap_of : Exchange → Swap
 swap_of x = record { high = x.high; low = x.low }
 

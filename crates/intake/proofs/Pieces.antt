@@ -7,10 +7,6 @@ use Rattle.std.specs.Io.KnownBytes.{Consumes, IsAtEnd}
 use Rattle.intake.specs.Taking.{Taken}
 use borrow.Rule.Slice.PartMut.{put_mid}
 
-pub consumes_nothing : (a : Option (List ℕ)) → Consumes a a []
-consumes_nothing None = tt
-consumes_nothing (Some p) = refl
-
 pub consumes_on : (a b c : Option (List ℕ)) (x y : List ℕ) → Consumes a b x → Consumes b c y → Consumes a c (x ++ y)
 consumes_on None b c x y h k = tt
 consumes_on (Some p) None c x y h k = absurd h

@@ -2,7 +2,8 @@
 #![tactic(auto)]
 
 ghost use Rattle.intake.specs.Taking.{Lost, Taken};
-ghost use Rattle.std.specs.Prelude.{◌≡◌, ◌≤◌, length, take, MatchResult};
+ghost use Rattle.std.specs.IoError.{error_kind};
+ghost use Rattle.std.specs.Prelude.{◌≡◌, ◌≤◌, ◌≢◌, length, take, IfErr, MatchResult};
 
 #[cfg(test)]
 mod tests;
@@ -17,6 +18,7 @@ pub fn take_from<R: Read>(input: &mut R, buffer: &mut [u8]) -> io::Result<usize>
     ensures bytes { MatchResult result
         (λ n. (n ≤ length buffer.new) × Taken (R.remaining input.old) (R.remaining input.new) (length buffer.new) (take n buffer.new))
         (λ _. Lost (R.remaining input.old) (R.remaining input.new) buffer.new) }
+    ensures retried { IfErr result (λ e. error_kind e ≢ ErrorKind.Interrupted) }
     ensures room { length buffer.new ≡ length buffer.old }
 {
     let mut n: usize = 0;

@@ -1,5 +1,5 @@
 -- The end of a list.
-use Rattle.std.proofs.Common.{◌∙◌, ◌≡◌, ℕ, suc, ◌+◌, List, [], ◌∷◌, ◌++◌, length, codes, ap, sym, None, add-zero, append_assoc, append-nil, subst, arith, Option, Result}
+use Rattle.std.proofs.Common.{◌∙◌, ◌≡◌, ℕ, suc, ◌+◌, List, [], ◌∷◌, ◌++◌, length, codes, refl, ap, sym, None, add-zero, append_assoc, append-nil, subst, arith, Option, Result}
 use Rattle.lines.specs.Text.{line_text}
 use Rattle.matroid_laws.specs.Matroids.{bases}
 use Rattle.measure.specs.declared.value.Shift.{Shift}
@@ -15,13 +15,14 @@ use Rattle.listing.specs.Texts.{lines_text, list_text, total_line}
 use Rattle.listing.specs.Hands.{AreBases, Begun, Hands, Ended}
 
 -- the last of some lines
-last_line : (n x : ℕ) (xs : List ℕ) → (before : List ℕ) × (last : ℕ) × (lines_text n (x ∷ xs) ≡ lines_text n before ++ (line_text (n + length xs) last ++ codes "\n"))
-last_line n x [] = ([], x, append-nil (line_text n x ++ codes "\n") ∙ ap (λ (k : ℕ). line_text k x ++ codes "\n") (sym (add-zero n)))
+last_line : (n x : ℕ) (xs : List ℕ) → (before : List ℕ) × (last : ℕ) × (x ∷ xs ≡ before ++ last ∷ []) × (lines_text n (x ∷ xs) ≡ lines_text n before ++ (line_text (n + length xs) last ++ codes "\n"))
+last_line n x [] = ([], x, refl, append-nil (line_text n x ++ codes "\n") ∙ ap (λ (k : ℕ). line_text k x ++ codes "\n") (sym (add-zero n)))
 last_line n x (y ∷ ys) =
     let r = last_line (suc n) y ys in (
       x ∷ r.0,
       r.1,
-      ap (λ (t : List ℕ). (line_text n x ++ codes "\n") ++ t) r.2
+      ap (λ (t : List ℕ). x ∷ t) r.2,
+      ap (λ (t : List ℕ). (line_text n x ++ codes "\n") ++ t) r.3
           ∙ sym (append_assoc (line_text n x ++ codes "\n") (lines_text (suc n) r.0) (line_text (suc n + length ys) r.1 ++ codes "\n"))
           ∙ ap (λ (k : ℕ). ((line_text n x ++ codes "\n") ++ lines_text (suc n) r.0) ++ (line_text k r.1 ++ codes "\n")) (omega arith),
     )
@@ -57,8 +58,9 @@ module _ {R V : Type 0} (w : Setting R V) where
         total = sym (A.totalled sets (reordered_refl sets)) ∙ W.total_all on.2;
         before = l.0;
         last = l.1;
+        parted = h.whole ∙ l.2;
         numbered = ap (lines_text 1) h.whole
-            ∙ l.2
+            ∙ l.3
             ∙ ap (λ (k : ℕ). lines_text 1 l.0 ++ (line_text k l.1 ++ codes "\n")) (omega (arith, ap (λ (ss : List ℕ). length ss) h.whole) ∙ count);
       }
 

@@ -13,7 +13,7 @@ use Rattle.walk_laws.proofs.Future.{no_both, runs_off, runs_on, runs_one}
 use Rattle.outlet.specs.Sending.{Broken, Holding}
 use Rattle.listing.specs.Texts.{lines_text}
 use Rattle.listing.specs.Hands.{Begun, Hands, Ended}
-use Rattle.outlet.proofs.Pieces.{holding_on, breaks_off, breaks_longer}
+use Rattle.outlet.proofs.Pieces.{goes_on, stops_in}
 
 -- the lines of two lists, one after the other
 pub lines_append : (n : ℕ) (xs ys : List ℕ) → lines_text n (xs ++ ys) ≡ lines_text n xs ++ lines_text (n + length xs) ys
@@ -23,18 +23,17 @@ lines_append n (x ∷ xs) ys =
     ∙ sym (append_assoc (line_text n x ++ codes "\n") (lines_text (suc n) xs) (lines_text (suc n + length xs) ys))
     ∙ ap (λ (k : ℕ). ((line_text n x ++ codes "\n") ++ lines_text (suc n) xs) ++ lines_text k ys) (omega arith)
 
-held_both : (page : List ℕ) (n : ℕ) (xs ys : List ℕ) → (page ++ lines_text n xs) ++ lines_text (n + length xs) ys ≡ page ++ lines_text n (xs ++ ys)
-held_both page n xs ys = append_assoc page (lines_text n xs) (lines_text (n + length xs) ys) ∙ ap (λ (t : List ℕ). page ++ t) (sym (lines_append n xs ys))
+module _ {a b : Option (List ℕ)} {text : List ℕ} (page : List ℕ) (n : ℕ) (xs ys : List ℕ) (h : Holding a b (page ++ lines_text n (xs ++ ys)) text) where
+  held : Holding a b (page ++ (lines_text n xs ++ lines_text (n + length xs) ys)) text
+  held = subst (λ (t : List ℕ). Holding a b (page ++ t) text) (lines_append n xs ys) h
 
-module _ {a b c : Option (List ℕ)} {text : List ℕ} (page : List ℕ) (n : ℕ) (xs ys : List ℕ) (h : Holding a b (page ++ lines_text n (xs ++ ys)) text) where
   -- the page and the lines of xs were held back; now a page of them is
-  pub passed : {after : List ℕ} → Holding b c after (page ++ lines_text n xs) → Holding a c (after ++ lines_text (n + length xs) ys) text
-  passed {after = after} k = holding_on k.sent (after ++ lines_text (n + length xs) ys) h k.appended
-      (sym (append_assoc k.sent after (lines_text (n + length xs) ys)) ∙ ap (λ (t : List ℕ). t ++ lines_text (n + length xs) ys) k.whole ∙ held_both page n xs ys)
+  pub passed : {c : Option (List ℕ)} {after : List ℕ} → Holding b c after (page ++ lines_text n xs) → Holding a c (after ++ lines_text (n + length xs) ys) text
+  passed {after = after} k = goes_on page (lines_text n xs) (lines_text (n + length xs) ys) held after k
 
   -- it broke off in them
-  pub broke : Broken b c (page ++ lines_text n xs) → Broken a c text
-  broke k = breaks_off h (subst (λ (t : List ℕ). Broken b c t) (held_both page n xs ys) (breaks_longer (lines_text (n + length xs) ys) k))
+  pub broke : {c : Option (List ℕ)} → Broken b c (page ++ lines_text n xs) → Broken a c text
+  broke k = stops_in page (lines_text n xs) (lines_text (n + length xs) ys) held k
 
 module _ {R V : Type 0} (w : Setting R V) where
   -- of all sets that the walk from s₀ hands out, some were handed out, and the walk in the state s hands out the rest

@@ -1,5 +1,5 @@
 -- All sets that a walk hands out.
-use Rattle.std.specs.Prelude.{◌≡◌, ℕ, List, ◌∷◌, ◌++◌, codes, length, None}
+use Rattle.std.specs.Prelude.{◌≡◌, ℕ, List, [], ◌∷◌, ◌++◌, codes, length, None}
 use Rattle.labels.specs.Families.{Once}
 use Rattle.lines.specs.Text.{line_text}
 use Rattle.matroid_laws.specs.Matroids.{bases}
@@ -42,4 +42,5 @@ module _ {R V : Type 0} (w : Setting R V) where
     -- the number on the last one's line is the number of bases
     pub before : List ℕ
     pub last : ℕ
+    pub parted : sets ≡ before ++ last ∷ []
     pub numbered : lines_text 1 sets ≡ lines_text 1 before ++ (line_text (length (bases w.n w.independent)) last ++ codes "\n")

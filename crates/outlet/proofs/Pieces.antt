@@ -1,18 +1,13 @@
 -- What was written, one piece after another.
 use Rattle.std.proofs.Common.{◌≡◌, ℕ, ◌+◌, ◌-◌, ◌<◌, List, [], ◌++◌, length, take, drop, refl, ap, sym, ◌∙◌, arith, Option, Some, None, append_assoc, append-nil, length-append, take-append-drop, length-drop, drop-drop, take_all, subst}
 use Rattle.std.proofs.Common.{Result, Ok, Err, MatchResult}
-use Rattle.std.specs.Io.KnownBytes.{Appends, Keeps}
-use Rattle.outlet.specs.Sending.{Broken, Holding, Sends}
+use Rattle.std.specs.Io.KnownBytes.{Appends}
+use Rattle.outlet.specs.Sending.{Broken, Holding, Passes, Sends}
 
 -- nothing was appended
 pub appends_nothing : (a : Option (List ℕ)) → Appends a a []
 appends_nothing None = tt
 appends_nothing (Some p) = sym (append-nil p)
-
-pub keeps_appends : (a b : Option (List ℕ)) → Keeps a b → Appends a b []
-keeps_appends None b h = tt
-keeps_appends (Some p) None h = absurd h
-keeps_appends (Some p) (Some q) h = h ∙ sym (append-nil p)
 
 pub appends_on : (a b c : Option (List ℕ)) (x y : List ℕ) → Appends a b x → Appends b c y → Appends a c (x ++ y)
 appends_on None b c x y h k = tt
@@ -68,12 +63,6 @@ pub holding_as : (a : Option (List ℕ)) {held text : List ℕ} → held ≡ tex
 holding_as a e = record { sent = []; appended = appends_nothing a; whole = e }
 
 -- all that was held back is to be sent
-pub sends_last : {E X : Type 0} {a b : Option (List ℕ)} (c : Option (List ℕ)) {held text : List ℕ} (r : Result (Unit {0}) E) → X → Holding a b held text → Sends b c r held
-    → MatchResult r (λ _. Appends a c text × X) (λ _. Broken a c text)
-sends_last {a = a} {b = b} c {held = held} (Ok u) x h k = (subst (λ (t : List ℕ). Appends a c t) h.whole (appends_on a b c h.sent held h.appended k), x)
-sends_last c (Err e) x h k = breaks_off h k
-
--- the same, with nothing more to say
 pub sends_all : {E : Type 0} {a b : Option (List ℕ)} (c : Option (List ℕ)) {held text : List ℕ} (r : Result (Unit {0}) E) → Holding a b held text → Sends b c r held → Sends a c r text
 sends_all {a = a} {b = b} c {held = held} (Ok u) h k = subst (λ (t : List ℕ). Appends a c t) h.whole (appends_on a b c h.sent held h.appended k)
 sends_all c (Err e) h k = breaks_off h k
@@ -81,3 +70,20 @@ sends_all c (Err e) h k = breaks_off h k
 -- one text sent, and then another
 pub sends_after : {E : Type 0} (a b c : Option (List ℕ)) (x y : List ℕ) (r : Result (Unit {0}) E) → Appends a b x → Sends b c r y → Sends a c r (x ++ y)
 sends_after a b c x y r h k = sends_all {a = a} {b = b} c r (record { sent = x; appended = h; whole = refl }) k
+
+module _ {a b : Option (List ℕ)} {all : List ℕ} (held x y : List ℕ) (h : Holding a b (held ++ (x ++ y)) all) where
+  -- what was held back and x were passed on, and y is still to come
+  pub goes_on : {c : Option (List ℕ)} (after : List ℕ) → Holding b c after (held ++ x) → Holding a c (after ++ y) all
+  goes_on after k =
+      holding_on k.sent (after ++ y) h k.appended
+      (sym (append_assoc k.sent after y) ∙ ap (λ (q : List ℕ). q ++ y) k.whole ∙ append_assoc held x y)
+
+  -- it broke off in them
+  pub stops_in : {c : Option (List ℕ)} → Broken b c (held ++ x) → Broken a c all
+  stops_in {c = c} k = breaks_off h (subst (λ (q : List ℕ). Broken b c q) (append_assoc held x y) (breaks_longer y k))
+
+-- nothing is still to come
+pub goes_last : {E : Type 0} {a b : Option (List ℕ)} (c : Option (List ℕ)) {all : List ℕ} (held x after : List ℕ) (r : Result (Unit {0}) E)
+    → Holding a b (held ++ x) all → Passes b c r after (held ++ x) → Passes a c r after all
+goes_last c held x after (Ok u) h k = holding_on k.sent after h k.appended k.whole
+goes_last c held x after (Err e) h k = breaks_off h k

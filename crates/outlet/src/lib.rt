@@ -2,6 +2,8 @@
 #![tactic(auto)]
 
 ghost use Rattle.outlet.specs.Sending.{Sends};
+ghost use Rattle.std.specs.IoError.{error_kind};
+ghost use Rattle.std.specs.Prelude.{◌≢◌, IfErr};
 
 use std::io;
 use std::io::{ErrorKind, Write};
@@ -10,7 +12,8 @@ use std::io::{ErrorKind, Write};
 /// or takes nothing, a front of the bytes was written that is not all of them.
 // A loop of its own: std's `write_all` says nothing of what was written before an error.
 pub fn send<W: Write>(out: &mut W, bytes: &[u8]) -> io::Result<()>
-    ensures { Sends (W.contents out.old) (W.contents out.new) result bytes.now }
+    ensures sends { Sends (W.contents out.old) (W.contents out.new) result bytes.now }
+    ensures retried { IfErr result (λ e. error_kind e ≢ ErrorKind.Interrupted) }
 {
     let mut at = 0;
     // Nothing says that a writer ever takes a byte, and this function ends.

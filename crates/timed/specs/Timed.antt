@@ -16,7 +16,10 @@ use Rattle.walk_laws.specs.Steps.{Several, begun, several}
 use Rattle.walk_laws.specs.Lives.{sets_of}
 use Rattle.walk_laws.specs.Law.{LawOfLife}
 use Rattle.timed.specs.declared.Outcome.{Outcome}
-use Rattle.timed.specs.declared.TheConstants.{PRIME}
+
+-- what spreads the bits of a digest
+abbrev pub prime : ℕ
+prime = 1099511628211
 
 -- what the label e is worth: e across, and e * e back along
 abbrev pub shift_for : ℕ → Shift
@@ -42,7 +45,7 @@ walk_over n independent shifts = record {
 
 -- a digest of the start and of exchanges, in order
 abbrev pub digested : ℕ → Exchange → ℕ
-digested d x = bit_xor d (bit_or (bit_or (x.high * 2 ^ 16) (x.low * 2 ^ 8)) (cond x.came 1 0)) * PRIME % 2 ^ 64
+digested d x = bit_xor d (bit_or (bit_or (x.high * 2 ^ 16) (x.low * 2 ^ 8)) (cond x.came 1 0)) * prime % 2 ^ 64
 
 unfoldable pub digest_of : ℕ → List (Exchange × ℕ) → ℕ
 digest_of d [] = d

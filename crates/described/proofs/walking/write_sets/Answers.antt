@@ -1,11 +1,11 @@
 use Rattle.std.proofs.Common.{◌≡◌, suc, ◌-◌, ◌++◌, codes, string_bytes, refl, subst, sym, ◌∙◌, arith}
 use Rattle.std.proofs.lemmas.Result.{err_from_is_err_and}
 use Rattle.outlet.specs.Sending.{Broken, Holding}
-use Rattle.outlet.proofs.Pieces.{holding_all}
+use Rattle.outlet.proofs.Pieces.{holding_all, goes_on, stops_in}
 use Rattle.walk.specs.States.{setting, setting_of, state_of}
 use Rattle.walk_laws.specs.declared.View.{View}
 use Rattle.described.specs.Texts.{exchange_text, onward_text, set_text}
-use Rattle.described.proofs.Passed.{goes_on, stops_in, when_ok}
+use Rattle.described.proofs.Passed.{when_ok}
 use Rattle.described.proofs.Onward.{stepped, end_leaves, last_leaves, last_line, turn_breaks, turn_ends, turn_goes, turn_leaves}
 use Rattle.described.proofs.walking.write_sets.Goals as goal
 
