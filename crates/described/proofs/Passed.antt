@@ -1,7 +1,7 @@
 -- Texts that are passed on, one behind the other.
-use Rattle.std.proofs.Common.{◌≡◌, ℕ, ◌<◌, List, ◌++◌, codes, length, Option, Some, None, IfSome, Result, Ok, Err, OnOk, ap, sym, ◌∙◌, subst, arith, append_assoc, length-append}
-use Rattle.outlet.specs.Sending.{Broken, Holding, Passes}
-use Rattle.outlet.proofs.Pieces.{breaks_here, breaks_longer, breaks_off, holding_all, holding_on}
+use Rattle.std.proofs.Common.{◌≡◌, ℕ, ◌<◌, List, ◌++◌, codes, length, Option, Some, None, IfSome, Result, Ok, Err, OnOk, sym, subst, arith, length-append}
+use Rattle.outlet.specs.Sending.{Passes}
+use Rattle.outlet.proofs.Pieces.{breaks_here, holding_all}
 
 -- no line was added
 pub not_added : {E : Type 0} (o a : Option (List ℕ)) (held after : List ℕ) (r : Result (Unit {0}) E) (e : E) → r ≡ Err e

@@ -14,7 +14,6 @@ use Rattle.described.specs.Files.{file_text, outcome, swaps_of}
 use Rattle.described.specs.Texts.{list_text}
 use Rattle.described.specs.Walks.{rank_text, total_text, whole_text}
 
-
 -- what is told of a walk that begins, by what it was made of
 pub by_parts : {P R M V X : Type 0} {matroids : MatroidOf P} {rules : TieRuleOf R} {measures : MeasureOf M V} (F : Setting R V → State R V → X)
     (walk : Walk P R M V matroids rules measures) {m : P} {n : M} {s : State R V} → walk.matroid ≡ m → walk.measure ≡ n → state_of walk ≡ s
