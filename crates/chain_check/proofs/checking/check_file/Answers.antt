@@ -15,7 +15,7 @@ returns-in-Ok-send g c =
     let buffer = c.take_from.new.buffer in
     let t : (c.in_ok-n.n ≤ length buffer) × Taken i j (length buffer) (take c.in_ok-n.n buffer) = search rules in
     answered c.in_ok-n.n buffer (λ (a : Answer) (text : List ℕ). (c.in-Ok.answer ≡ a) × Appends o p text) t c.take_from.ensures.room (omega arith) c.in-Ok.ensures
-    (refl, subst (λ (text : List ℕ). Appends o p text) c.as_bytes.ensures.value c.in-Ok-send.ensures)
+    (refl, subst (λ (text : List ℕ). Appends o p text) c.as_bytes.ensures.value c.in-Ok-send.ensures.sends)
 
 pub returns : goal.returns
 returns g c =
@@ -26,4 +26,4 @@ returns g c =
     let buffer = c.take_from.new.buffer in
     let t : (c.in_ok-n.n ≤ length buffer) × Taken i j (length buffer) (take c.in_ok-n.n buffer) = search rules in
     answered c.in_ok-n.n buffer (λ (a : Answer) (text : List ℕ). Broken o p text) t c.take_from.ensures.room (omega arith) c.in-Ok.ensures
-    (subst (λ (text : List ℕ). Broken o p text) c.as_bytes.ensures.value c.in-Err.ensures)
+    (subst (λ (text : List ℕ). Broken o p text) c.as_bytes.ensures.value c.in-Err.ensures.sends)
