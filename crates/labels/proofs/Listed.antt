@@ -1,6 +1,8 @@
 -- All sets within 1..n as a list, and those that pass a test.
-use Rattle.std.proofs.Common.{◌≡◌, ℕ, zero, suc, ◌^◌, ◌<◌, Bool, true, false, cond, ◌⊎◌, List, [], ◌∷◌, filter, refl, ap, ◌∙◌, inl, inr, arith}
+use Rattle.std.proofs.Common.{◌≡◌, ℕ, zero, suc, ◌^◌, ◌<◌, ◌≤◌, Bool, true, false, cond, eqb, ◌⊎◌, List, [], ◌∷◌, length, filter, sym, refl, ap, ◌∙◌, subst, inl, inr, arith}
 use native.Mathlib.Decide.{ℕ_discrete}
+use Rattle.std.specs.List.{ContainsAt as Has}
+use Rattle.std.proofs.lemmas.Bool.{cases_eq, eq-eqb, ne_eqb}
 use Rattle.labels.specs.Families.{numbers_below, In, Once, family}
 
 pub in_numbers : (m x : ℕ) → x < m → In x (numbers_below m)
@@ -59,3 +61,50 @@ family_in n t s i = let r = kept_in t (numbers_below (2 ^ n)) s i in (numbers_in
 
 pub once_family : (n : ℕ) (t : ℕ → Bool) → Once (family n t)
 once_family n t = once_kept t (numbers_below (2 ^ n)) (once_numbers (2 ^ n))
+
+-- ---- how many: a list with no repetition, all of it in another, is no longer than that
+
+without : ℕ → List ℕ → List ℕ
+without x [] = []
+without x (y ∷ ys) = cond (eqb x y) ys (y ∷ without x ys)
+
+length_without : (x : ℕ) (ys : List ℕ) → In x ys → suc (length (without x ys)) ≡ length ys
+unfolding without
+length_without x [] i = elim i [ ]
+length_without x (y ∷ ys) i = go (cases_eq x y) i (length_without x ys)
+  where
+    go : (x ≡ y) ⊎ (x ≡ y → ⊥) → (x ≡ y) ⊎ In x ys → (In x ys → suc (length (without x ys)) ≡ length ys)
+        → suc (length (cond (eqb x y) ys (y ∷ without x ys))) ≡ suc (length ys)
+    go (inl e) j ih = rw (eq-eqb x y e)
+    go (inr n) (inl e) ih = absurd (n e)
+    go (inr n) (inr j) ih = rw (ne_eqb x y n) (ap suc (ih j))
+
+in_without : (x z : ℕ) (ys : List ℕ) → In z ys → (z ≡ x → ⊥) → In z (without x ys)
+unfolding without
+in_without x z [] i n = i
+in_without x z (y ∷ ys) i n = go (cases_eq x y) i (λ j. in_without x z ys j n)
+  where
+    go : (x ≡ y) ⊎ (x ≡ y → ⊥) → (z ≡ y) ⊎ In z ys → (In z ys → In z (without x ys)) → In z (cond (eqb x y) ys (y ∷ without x ys))
+    go (inl e) (inl q) ih = absurd (n (q ∙ sym e))
+    go (inl e) (inr j) ih = rw (eq-eqb x y e) j
+    go (inr m) (inl q) ih = rw (ne_eqb x y m) (inl q)
+    go (inr m) (inr j) ih = rw (ne_eqb x y m) (inr (ih j))
+
+pub no_longer : (xs ys : List ℕ) → Once xs → ((x : ℕ) → In x xs → In x ys) → length xs ≤ length ys
+no_longer [] ys o f = omega arith
+no_longer (x ∷ xs) ys o f =
+    let e = length_without x ys (f x (inl refl)) in
+    let h = no_longer xs (without x ys) o.1 (λ z i. in_without x z ys (f z (inr i)) (λ q. o.0 (subst (λ (w : ℕ). In w xs) q i))) in
+    omega arith
+
+-- ---- the two words for "stands in the list": here, and std's `Has`
+
+pub has_from_in : (xs : List ℕ) (x : ℕ) → In x xs → Has xs x
+has_from_in [] x i = elim i [ ]
+has_from_in (y ∷ ys) x (inl e) = (0, omega arith, λ d. sym e)
+has_from_in (y ∷ ys) x (inr i) = let r = has_from_in ys x i in (suc r.0, omega arith, r.2)
+
+pub in_from_has : (xs : List ℕ) (x : ℕ) → Has xs x → In x xs
+in_from_has [] x (k, l, a) = absurd (omega arith)
+in_from_has (y ∷ ys) x (zero, l, a) = inl (sym (a 0))
+in_from_has (y ∷ ys) x (suc k, l, a) = inr (in_from_has ys x (k, omega arith, a))

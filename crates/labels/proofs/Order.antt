@@ -3,7 +3,7 @@ use Rattle.std.proofs.Common.{◌≡◌, ℕ, zero, suc, ◌+◌, ◌/◌, ◌<�
 use native.Mathlib.Decide.{ℕ_discrete}
 use lib.Bits.{bit_xor}
 use Rattle.std.proofs.lemmas.Bool.Decides.{nat_tests}
-use Rattle.labels.specs.Sets.{bit, has, TopDifference, reopened}
+use Rattle.labels.specs.Sets.{bit, has, TopDifference, swap, reopened}
 use Rattle.labels.proofs.Member.{bit_low, bit_up, has_pos, has_zero, members}
 use Rattle.labels.proofs.Card.{bit_ext, highest, xor_back}
 
@@ -24,6 +24,16 @@ top a b ne = go (ℕ_discrete (bit_xor a b) 0)
 -- and only one
 pub top_one : (a b d e : ℕ) → TopDifference a b d → TopDifference a b e → d ≡ e
 top_one a b d e p q = grind (arith, members)
+
+pub top_sym : (a b d : ℕ) → TopDifference a b d → TopDifference b a d
+top_sym a b d p = record { apart = grind arith; above = λ e l. sym (p.above e l) }
+
+-- swapping two labels e > f: e is the highest label of difference
+pub top_swap : (s e f : ℕ) → 1 ≤ f → f < e → TopDifference s (swap s e f) e
+top_swap s e f h l = record {
+  apart = grind (arith, members);
+  above = λ x g. grind (arith, members);
+}
 
 -- the number with the highest label of difference is the larger
 bit_less : (k a b : ℕ) → bit a k ≡ false → bit b k ≡ true → ((j : ℕ) → k < j → bit a j ≡ bit b j) → a < b

@@ -1,17 +1,22 @@
 -- The forms of the code's words, at w bits, as the sets that they are.
-use Rattle.std.proofs.Common.{◌≡◌, ℕ, zero, suc, ◌+◌, ◌-◌, ◌*◌, ◌/◌, ◌%◌, ◌^◌, ◌<◌, ◌≤◌, true, false, not, ◌&&◌, eqb, ◌⊎◌, sym, refl, ap, ◌∙◌, inl, inr, one-add, arith}
+use Rattle.std.proofs.Common.{◌≡◌, ℕ, zero, suc, ◌+◌, ◌-◌, ◌*◌, ◌/◌, ◌%◌, ◌^◌, ◌<◌, ◌≤◌, true, false, not, ◌&&◌, eqb, ◌⊎◌, sym, refl, ap, ◌∙◌, inl, inr, one-add, arith, pow_pos}
 use lib.Bits.{bit_and, and_mask}
 use lib.Count.{count_leading_zeros, count_trailing_zeros, under, leading_top}
 use Rattle.std.proofs.lemmas.Bool.Decides.{nat_tests}
+use Rattle.std.proofs.lemmas.Bool.{cases_Bool}
 use Rattle.std.proofs.lemmas.Nat.{one_shl, shr-shr, pow_below}
 use Rattle.labels.specs.Sets.{bit, has, single, difference}
-use Rattle.labels.proofs.Member.{bit_up, bit_low, bit_not, bit_and_not, has_difference}
+use Rattle.labels.proofs.Member.{bit_up, bit_low, bit_not, bit_and_not, has_difference, members}
 use Rattle.labels.proofs.Card.{ext, top_is}
 
 -- `1 << (e - 1)`
 pub shl_is : (w e : ℕ) → 1 ≤ e → e ≤ w → (1 * 2 ^ (e - 1)) % 2 ^ w ≡ single e
 unfolding single
 shl_is w e h l = one_shl (e - 1) w (omega arith)
+
+single_pos : (e : ℕ) → 0 < single e
+unfolding single
+single_pos e = pow_pos (e - 1)
 
 pub single_below : (w e : ℕ) → 1 ≤ e → e ≤ w → single e < 2 ^ w
 unfolding single
@@ -25,6 +30,18 @@ and_not_is w a b h l = ext (bit_and a ((2 ^ w - 1) - b)) (difference a b) (λ e.
     go : (e : ℕ) → has (bit_and a ((2 ^ w - 1) - b)) e ≡ (has a e && not (has b e))
     go zero = refl
     go (suc k) = bit_and_not w a b k h l
+
+-- `s & (1 << (e - 1)) != 0`
+pub mask_tests : (s e : ℕ) → 1 ≤ e → not (eqb (bit_and s (single e)) 0) ≡ has s e
+mask_tests s e h = go (cases_Bool (has s e))
+  where
+    go : (has s e ≡ true) ⊎ (has s e ≡ false) → not (eqb (bit_and s (single e)) 0) ≡ has s e
+    go (inl m) =
+        let z : bit_and s (single e) ≡ single e = ext _ _ (λ f. grind (arith, members)) in
+        let p = single_pos e in grind (arith, nat_tests)
+    go (inr m) =
+        let z : bit_and s (single e) ≡ 0 = ext _ _ (λ f. grind (arith, members)) in
+        grind (arith, nat_tests)
 
 -- `(s >> (e - 1)) & 1 == 1`
 bit_div : (s k : ℕ) → bit s k ≡ eqb (s / 2 ^ k % 2) 1
