@@ -25,6 +25,14 @@ pub record Table (n : ℕ) (v : ℕ → ℕ) (t : ℕ) (p : ℕ → ℕ) : Type 
   pub gone : (e : ℕ) → has t e ≡ true → reduced p places (v e) ≡ 0
   pub independent : LinearlyIndependent n v t
 
+pub at_start : (n : ℕ) (v p : ℕ → ℕ) → ((k : ℕ) → p k ≡ 0) → Table n v 0 p
+at_start n v p f = record {
+  echelon = λ k. inl (f k);
+  made = λ k. (0, λ e m. m, xor_sum_empty v n ∙ sym (f k));
+  gone = λ e m. absurd (both_ways (has 0 e) (has_none e) m);
+  independent = record { inside = pow_pos n; free = λ t p z. subset_none t 0 p refl };
+}
+
 module _ (n : ℕ) (v : ℕ → ℕ) (t : ℕ) (p : ℕ → ℕ) (P : Table n v t p) (e : ℕ) (l : 1 ≤ e) (g : e ≤ n) (o : has t e ≡ false) where
   -- reduced to 0: t with e is dependent
   pub refuses : reduced p places (v e) ≡ 0 → LinearlyIndependent n v (insert t e) → ⊥
@@ -114,12 +122,7 @@ pivot_blank n zero = refl
 pivot_blank n (suc k) = get_d_blank n k
 
 pub blank_table : (n : ℕ) (v : ℕ → ℕ) (m : ℕ) → Table n v 0 (pivot (replicate m 0))
-blank_table n v m = record {
-  echelon = λ k. inl (pivot_blank m k);
-  made = λ k. (0, λ e i. i, xor_sum_empty v n ∙ sym (pivot_blank m k));
-  gone = λ e i. absurd (both_ways (has 0 e) (has_none e) i);
-  independent = record { inside = pow_pos n; free = λ t p z. subset_none t 0 p refl };
-}
+blank_table n v m = at_start n v (pivot (replicate m 0)) (pivot_blank m)
 
 pub grown_length : (ps : List ℕ) (w : ℕ) (qs : List ℕ) → Grown ps w qs → length qs ≡ length ps
 grown_length ps w qs G = ap length G.stored ∙ length-set ps G.index G.left
