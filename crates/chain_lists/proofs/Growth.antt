@@ -162,3 +162,8 @@ length_front_parts c =
 
 pub length_front_le : (c : ChainList) → 15 + 8 * length c.swaps ≤ length (front_of c)
 length_front_le c = omega (arith, length_front_parts c)
+
+pub length_front : (c : ChainList) → c.totals ≡ [] → length (front_of c) ≡ 15 + 8 * length c.swaps
+length_front c none =
+    let no : length (flat_map total_written c.totals) ≡ 0 = ap (λ (ts : List Total). length (flat_map total_written ts)) none in
+    omega (arith, length_front_parts c, no)
