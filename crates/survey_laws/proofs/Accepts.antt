@@ -90,7 +90,7 @@ whole_fits p done (r ∷ rs) W = (
   whole_fits p (done ++ r ∷ []) rs (subst (Whole p) (sym (append_assoc done (r ∷ []) rs)) W),
 )
 
-fits_whole : (p : ℕ) (done rs : List SurveyRow) → Whole p done → Fit p done rs → Whole p (done ++ rs)
+pub fits_whole : (p : ℕ) (done rs : List SurveyRow) → Whole p done → Fit p done rs → Whole p (done ++ rs)
 fits_whole p done [] W F = subst (Whole p) (sym (append-nil done)) W
 fits_whole p done (r ∷ rs) W F =
     let L = F.0 in
