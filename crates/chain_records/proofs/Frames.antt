@@ -9,7 +9,11 @@ use Rattle.std.proofs.lemmas.List.{length-drop, length-take-le}
 use Rattle.chain_lists.specs.declared.Kind.{Kind}
 use Rattle.chain_lists.specs.declared.Kind.TheVariants.{Head, Exchange, End, ShiftTotal, LampTotal}
 use Rattle.chain_lists.specs.Lists.{little, framed, kind_number, kind_length, kind_numbered}
+use Rattle.chain_records.specs.Records.{exchanges_in}
 use Rattle.chain_lists.specs.Faults.{Beginning, stated, kind_in, complete, cut_off, misshapen, kind_fault, record_fault}
+
+pub at_end : (xs : List ℕ) (at : ℕ) → at ≤ length xs → eqb at (length xs) ≡ eqb (length (drop at xs)) 0
+at_end xs at h = grind (arith, length-drop)
 
 pub complete_tells : (xs : List ℕ) → complete xs ≡ true → (4 ≤ length xs) × (4 + stated xs ≤ length xs)
 unfolding complete
@@ -70,7 +74,10 @@ frame_is (a ∷ b ∷ c ∷ d ∷ e ∷ f ∷ xs) k byte long length-is kind-is 
     let z : a ∷ b ∷ c ∷ d ∷ e ∷ f ∷ [] ≡ kind_length k ∷ 0 ∷ 0 ∷ 0 ∷ kind_number k ∷ 0 ∷ [] = cc in
     z ∙ sym (frame_bytes k)
 
-kind_long : (k : Kind) → 2 ≤ kind_length k
+pub few_exchanges : (k : Kind) → exchanges_in k ≤ kind_length k
+few_exchanges k = grind arith
+
+pub kind_long : (k : Kind) → 2 ≤ kind_length k
 kind_long k = grind arith
 
 -- a record that is all there, but has no kind with its length
