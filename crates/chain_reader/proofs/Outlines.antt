@@ -1,5 +1,5 @@
 -- A list in short, record by record.
-use Rattle.std.proofs.Common.{◌≡◌, ℕ, false, List, [], ◌∷◌, ◌++◌, ℤ, Some, sym, refl, ◌∙◌, subst}
+use Rattle.std.proofs.Common.{◌≡◌, ℕ, ◌<◌, false, List, [], ◌∷◌, ◌++◌, length, ℤ, Some, sym, refl, ◌∙◌, subst, arith}
 use borrow.Author.Tests.{clash}
 use Rattle.chain_lists.specs.declared.Kind.TheVariants.{ShiftTotal, LampTotal}
 use Rattle.chain_lists.specs.declared.Swap.{Swap}
@@ -7,11 +7,11 @@ use Rattle.chain_lists.specs.declared.Total.{Total}
 use Rattle.chain_lists.specs.declared.Total.TheVariants.{Shift, Lamp}
 use Rattle.chain_lists.specs.Lists.{ChainList, Holds, stands}
 use Rattle.chain_lists.specs.Faults.{Beginning, nothing, so_far, ended}
-use Rattle.chain_lists.proofs.Growth.{last_set_more}
+use Rattle.chain_lists.proofs.Growth.{last_set_more, length_head_written, length_swap_written, length_shift_written, length_lamp_written, length_end_written}
 use Rattle.chain_reader.specs.declared.values.Entry.{Entry}
-use Rattle.chain_reader.specs.declared.values.Entry.TheVariants.{Exchange, Total as Summed}
+use Rattle.chain_reader.specs.declared.values.Entry.TheVariants.{Head, Exchange, Total as Summed, End}
 use Rattle.chain_reader.specs.declared.values.Summary.{Summary}
-use Rattle.chain_reader.specs.Reading.{Finished, Summarises, SummaryAfter, Told, extended, shift_among, lamp_among}
+use Rattle.chain_reader.specs.Reading.{Finished, Summarises, SummaryAfter, Told, entry_written, extended, shift_among, lamp_among}
 
 -- ---- a total more
 
@@ -82,3 +82,11 @@ pub finish
 finish file nothing s f o = absurd f
 finish file (so_far c) s f o = absurd f
 finish file (ended c) s f o = (c, f, o)
+
+-- no record is empty
+pub entry_long : (e : Entry) → 0 < length (entry_written e)
+entry_long (Head n s) = omega (arith, length_head_written n s)
+entry_long (Exchange x t) = omega (arith, length_swap_written x)
+entry_long (Summed (Shift a b)) = omega (arith, length_shift_written a b)
+entry_long (Summed (Lamp w)) = omega (arith, length_lamp_written w)
+entry_long (End k) = omega (arith, length_end_written k)

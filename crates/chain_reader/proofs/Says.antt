@@ -1,8 +1,10 @@
 -- What a record says after a beginning, by its kind.
 use Rattle.std.proofs.Common.{◌≡◌, ℕ, ◌+◌, ◌^◌, ◌<◌, ◌≤◌, true, false, eqb, List, [], ◌∷◌, ◌++◌, length, get_or, sym, refl, ap, ◌∙◌, subst, arith}
+use borrow.Author.Tests.{clash}
 use Rattle.std.proofs.lemmas.List.{length-append, nil_from_length}
 use Rattle.std.proofs.lemmas.Bool.{eqb-true}
 use Rattle.labels.specs.Sets.{limit}
+use Rattle.chain_lists.specs.declared.Kind.{Kind}
 use Rattle.chain_lists.specs.declared.Kind.TheVariants.{ShiftTotal, LampTotal}
 use Rattle.chain_lists.specs.declared.Kind.TheVariants as kind
 use Rattle.chain_lists.specs.declared.Spot.{Spot}
@@ -28,6 +30,19 @@ two [] l = absurd (omega arith)
 two (a ∷ []) l = absurd (omega arith)
 two (a ∷ b ∷ []) l = refl
 two (a ∷ b ∷ c ∷ bs) l = absurd (omega arith)
+
+-- ---- totals
+
+pub no_totals : (ts : List Total) → stands ShiftTotal ts ≡ false → stands LampTotal ts ≡ false → ts ≡ []
+no_totals [] s l = refl
+no_totals (Shift a b ∷ ts) s l = absurd (clash (sym s))
+no_totals (Lamp w ∷ ts) s l = absurd (clash (sym l))
+
+pub some_total : (k : Kind) (ts : List Total) → stands k ts ≡ true → eqb (length ts) 0 ≡ false
+some_total k [] h = absurd (clash h)
+some_total k (t ∷ ts) h = grind arith
+
+-- ---- the list of a beginning
 
 -- a reader that is amid a list has read a list so far
 pub amid
