@@ -1,11 +1,11 @@
 -- Bytes that are put into a buffer: what stands before their end, and what stays.
-use Rattle.std.proofs.Common.{◌≡◌, ℕ, ◌+◌, ◌<◌, ◌≤◌, List, ◌++◌, length, take, drop, ℤ, sym, ap, ◌∙◌, subst, arith, w64, SFits, to_z, of_z}
+use Rattle.std.proofs.Common.{◌≡◌, ℕ, ◌+◌, ◌/◌, ◌%◌, ◌<◌, ◌≤◌, List, [], ◌∷◌, ◌++◌, length, get_or, take, drop, ℤ, sym, ap, ◌∙◌, subst, arith, w64, SFits, to_z, of_z}
 use Rattle.std.proofs.lemmas.List.{append_assoc, drop_at, drop-drop, length-append, length-drop, length-take-le, take_at}
 use Rattle.std.proofs.lemmas.Bool.{cond-true, cond-false, le-leb, lt-leb}
 use Rattle.std.proofs.lemmas.Int.{to_z-of_z}
 use Rattle.chain_lists.specs.declared.Kind.{Kind}
 use Rattle.chain_lists.specs.Lists.{little, framed, kind_length, kind_number}
-use Rattle.chain_lists.proofs.Bytes.{length_framed, length_little}
+use Rattle.chain_lists.proofs.Bytes.{length_framed, length_little, little_8}
 use Rattle.chain_writer.specs.Writing.{Puts, put_at, put_in}
 
 -- how long what stands before the end of the bytes is
@@ -98,6 +98,17 @@ puts_framed k at body {ls} {ks} {old} {old₁} {old₂} {new} {kind_at} {body_at
         ∙ ap (λ (a : ℕ). put_at a body old₂) (omega (arith, p₁, p₂, both))
         ∙ ap (put_at (at + length (ls ++ ks)) body) two
         ∙ put_after at (ls ++ ks) body old (omega (arith, fits, all))
+
+-- the bytes of a number, read one by one
+pub read_eight
+    : (bs rest : List ℕ) (x : ℕ)
+    → bs
+    ≡ x % 256 ∷ x / 256 % 256 ∷ x / 65536 % 256 ∷ x / 16777216 % 256 ∷ x / 4294967296 % 256 ∷ x / 1099511627776 % 256 ∷ x / 281474976710656 % 256 ∷ x / 72057594037927936 % 256 ∷ []
+    → get_or bs 0 0 ∷ get_or bs 1 0 ∷ get_or bs 2 0 ∷ get_or bs 3 0 ∷ get_or bs 4 0 ∷ get_or bs 5 0 ∷ get_or bs 6 0 ∷ get_or bs 7 0 ∷ rest
+    ≡ little 8 x ++ rest
+read_eight bs rest x e =
+    ap (λ (q : List ℕ). get_or q 0 0 ∷ get_or q 1 0 ∷ get_or q 2 0 ∷ get_or q 3 0 ∷ get_or q 4 0 ∷ get_or q 5 0 ∷ get_or q 6 0 ∷ get_or q 7 0 ∷ rest) e
+    ∙ ap (λ (q : List ℕ). q ++ rest) (sym (little_8 x))
 
 -- signed numbers, as a caller passes them
 pub eights_same
