@@ -34,7 +34,7 @@ impl Group for Word {
 
 impl Words {
     /// Adds the word of the next label. Refused, with nothing changed, if there can be no such label.
-    // Not one `add` of a value for all worths, as for shifts: who adds has a word, and would have to make the value first.
+    // Beside `add_worth`, as for shifts: who adds has a number, and would have to make the value first.
     pub fn add(&mut self, bits: u64) -> Result<(), EntryRefusal>
         ensures { Adds words_of self.old (word_with bits) result self.new }
     {

@@ -41,7 +41,7 @@ impl Group for Shift {
 
 impl Shifts {
     /// Adds the shift of the next label. Refused, with nothing changed, if there can be no such label.
-    // Not one `add` of a value for all worths: who adds has two numbers, and would have to make the value first.
+    // Beside `add_worth`, which takes a value: who adds has two numbers, and would have to make the value first.
     pub fn add(&mut self, across: i64, along: i64) -> Result<(), EntryRefusal>
         ensures cases { Adds entries_of self.old (shift_of across along) result self.new }
         ensures same { ((shift_of across along).across ≡ across) × ((shift_of across along).along ≡ along) }

@@ -1,3 +1,4 @@
+ghost use Rattle.entries.specs.Table.{Adds};
 ghost use Rattle.std.specs.Prelude.{◌≡◌, [], length};
 ghost use Rattle.measure.specs.Table.{worth_at, worths_of};
 
@@ -5,6 +6,7 @@ use crate::group::Group;
 use crate::interface::Measure;
 use crate::table::Worths;
 use entries::Entries;
+use entry::EntryRefusal;
 
 impl<V: Group> Worths<V> {
     /// No values yet.
@@ -14,6 +16,13 @@ impl<V: Group> Worths<V> {
         Worths {
             table: Entries::new(V::zero()),
         }
+    }
+
+    /// Adds what the next label is worth. Refused, with nothing changed, if there can be no such label.
+    pub fn add_worth(&mut self, worth: V) -> Result<(), EntryRefusal>
+        ensures { Adds worths_of self.old worth result self.new }
+    {
+        self.table.add(worth)
     }
 
     /// How many labels have a value.
