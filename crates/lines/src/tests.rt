@@ -62,6 +62,12 @@ fn totals(rt: HostRuntime) {
         along: 12,
     };
     assert_eq!(rt; three.text().as_str(), "total 3 16 12\n");
+    let small = TotalLine {
+        count: 1,
+        across: 0,
+        along: -5,
+    };
+    assert_eq!(rt; small.text().as_str(), "total 1 0 -5\n");
     let longest = TotalLine {
         count: u64::MAX,
         across: i64::MIN,

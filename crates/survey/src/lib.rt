@@ -63,6 +63,8 @@ mod tests {
             s.points() == 3
                 && s.len() == 3
                 && s.rows() == SEAMS.as_slice()
+                && s.row(0) == Some(SEAMS[0])
+                && s.row(1) == Some(SEAMS[1])
                 && s.row(2) == Some(SEAMS[2])
         })
     }
