@@ -14,7 +14,7 @@ fn run(rt: &HostRuntime) -> anyhow::Result<()> {
         Ok(Answer::Refused) => Err(anyhow!("the file is refused")),
         Err(Failure::Reading(e) | Failure::Writing(e)) => Err(e.into()),
         Err(Failure::TooLong) => Err(anyhow!("the file is too long")),
-        Err(Failure::NoMemory) => Err(anyhow!("there is no memory")),
+        Err(Failure::NoMemory) => Err(anyhow!("out of memory")),
     }
 }
 

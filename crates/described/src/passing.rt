@@ -9,8 +9,8 @@ use std::fmt::Display;
 use std::io;
 use std::io::Write;
 
-/// From how many bytes on nothing is held back.
-const ENOUGH: usize = 4096;
+/// From how many bytes on nothing is held back; as many as the library's `BufWriter` holds.
+const ENOUGH: usize = 8192;
 
 /// A writer, and lines that are held back until there are enough of them.
 // No `BufWriter`: no clause says what is held back in it.
