@@ -7,6 +7,8 @@ use labels::LIMIT;
 
 impl<V: Copy> Entries<V> {
     /// No entries yet. The places that are free hold `filler`, which is never answered.
+    // By itself: put into its caller, it would have the compiler copy all places there, field by field.
+    #[inline(never)]
     pub fn new(filler: V) -> Entries<V>
         ensures { values result ≡ [] }
     {
